@@ -1,0 +1,4 @@
+pub mod Forms
+pub mod BandRange
+pub mod Served
+pub mod Extends
