@@ -1,0 +1,47 @@
+-- A reading fits a grades state exactly where the two masks share a bit and its tick is new.
+use mathlib.Core.Path.{_≡_, refl, sym, ap, _∙_}
+use mathlib.Core.Bool.{Bool, true, false}
+use Prim.Native.Nat.{ℕ, _<_}
+use native.Mathlib.Omega.{arith}
+use lib.Bits.{bitAnd}
+use lib.Count.{trailingZeros}
+use borrow.Author.Tests.{ne-eqb}
+use Rattle.std.specs.declared.option.Option.the-variants.{Some, None}
+use Rattle.family.specs.Readings.{Reading, Above}
+use Rattle.family.specs.Meaning.{Fits, form-refusal, refusal}
+use Rattle.family.proofs.Forms.{first-none, if-none}
+use Rattle.grades.specs.declared.grades.Grades.{Grades}
+use Rattle.grades.specs.Bit.{bit, lowest-below}
+use Rattle.grades.specs.GradeMasks.{grades-meaning, Grade, mask-of}
+use Rattle.grades.proofs.Bitwise.{lowest-set, bit-and, bit-some, and-below}
+
+abbrev pub Shares : Grades → Reading → Type 0
+Shares s r = Above (s .last) (r .tick) × (0 < bitAnd (s .mask) (mask-of (r .row)))
+
+module _ (s : Grades) (r : Reading) where
+  pub fits-from : Shares s r → Fits grades-meaning s r
+  fits-from j =
+      let n = bitAnd (s .mask) (mask-of (r .row)) in
+      let b = and-below (s .mask) (mask-of (r .row)) (s .small) in
+      let g = trailingZeros 32 n in
+      let e = sym (bit-and g (s .mask) (mask-of (r .row))) ∙ lowest-set 32 n (j .1) (omega arith) in
+      record { above = j .0; some = record { by = record { at = g; below = lowest-below 28 32 n (j .1) b (omega arith) }; allowed = omega arith; serving = omega arith } }
+
+  pub fits-to : Fits grades-meaning s r → Shares s r
+  fits-to f =
+      let g = f .some .by .at in
+      let a = f .some .allowed in
+      let b = f .some .serving in
+      (f .above, bit-some g (bitAnd (s .mask) (mask-of (r .row))) (bit-and g (s .mask) (mask-of (r .row)) ∙ omega arith))
+
+-- a reading in form whose mask is not 0 is not refused
+pub passes : (r : Reading) (mask : ℕ) → form-refusal grades-meaning r ≡ None → mask ≡ mask-of (r .row) → (mask ≡ 0 → ⊥) → refusal grades-meaning r ≡ None
+passes r mask f e u = first-none (form-refusal grades-meaning r) _ f (if-none _ (ne-eqb (mask-of (r .row)) 0 (λ z. u (e ∙ z))))
+
+-- the answers of a reading that joins and of one that does not: `mask` is its mask as the code holds it
+module _ (s : Grades) (r : Reading) (mask : ℕ) (f : form-refusal grades-meaning r ≡ None) (e : mask ≡ mask-of (r .row)) (u : mask ≡ 0 → ⊥) where
+  pub joined : Above (s .last) (r .tick) × (0 < bitAnd (s .mask) mask) → (refusal grades-meaning r ≡ None) × (Fits grades-meaning s r × (bitAnd (s .mask) mask ≡ bitAnd (s .mask) (mask-of (r .row))))
+  joined j = let q = ap (bitAnd (s .mask)) e in (passes r mask f e u, (fits-from s r (j .0, omega (arith, j .1)), q))
+
+  pub parted : (Above (s .last) (r .tick) × (0 < bitAnd (s .mask) mask) → ⊥) → (refusal grades-meaning r ≡ None) × (Fits grades-meaning s r → ⊥)
+  parted j = let q = ap (bitAnd (s .mask)) e in (passes r mask f e u, λ x. let h = fits-to s r x in j (h .0, omega (arith, h .1)))
