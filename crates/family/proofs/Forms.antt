@@ -63,10 +63,3 @@ slot-filled k n o x xs b m e v h =
     let p = d .1 in
     let q = d .2 in
     set-one xs b h ∙ ap (λ (z : ℕ). z ∷ []) (cc)
-
--- nothing is refused where each check passes
-pub first-none : (o p : Option Refusal) → o ≡ None → p ≡ None → first-of o p ≡ None
-first-none o p e f = rw (e, f) refl
-
-pub if-none : (b : Bool) → b ≡ false → refuse-if b NoChoice ≡ None
-if-none b e = rw e refl

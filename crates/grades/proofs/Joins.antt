@@ -5,11 +5,8 @@ use Prim.Native.Nat.{ℕ, _<_}
 use native.Mathlib.Omega.{arith}
 use lib.Bits.{bitAnd}
 use lib.Count.{trailingZeros}
-use borrow.Author.Tests.{ne-eqb}
-use Rattle.std.specs.declared.option.Option.the-variants.{Some, None}
 use Rattle.family.specs.Readings.{Reading, Above}
-use Rattle.family.specs.Meaning.{Fits, form-refusal, refusal}
-use Rattle.family.proofs.Forms.{first-none, if-none}
+use Rattle.family.specs.Meaning.{Fits}
 use Rattle.grades.specs.declared.grades.Grades.{Grades}
 use Rattle.grades.specs.Bit.{bit, lowest-below}
 use Rattle.grades.specs.GradeMasks.{grades-meaning, Grade, mask-of}
@@ -34,14 +31,10 @@ module _ (s : Grades) (r : Reading) where
       let b = f .some .serving in
       (f .above, bit-some g (bitAnd (s .mask) (mask-of (r .row))) (bit-and g (s .mask) (mask-of (r .row)) ∙ omega arith))
 
--- a reading in form whose mask is not 0 is not refused
-pub passes : (r : Reading) (mask : ℕ) → form-refusal grades-meaning r ≡ None → mask ≡ mask-of (r .row) → (mask ≡ 0 → ⊥) → refusal grades-meaning r ≡ None
-passes r mask f e u = first-none (form-refusal grades-meaning r) _ f (if-none _ (ne-eqb (mask-of (r .row)) 0 (λ z. u (e ∙ z))))
+-- what a reading that joins leaves, and one that does not: `mask` is its mask as the code holds it
+module _ (s : Grades) (r : Reading) (mask : ℕ) (e : mask ≡ mask-of (r .row)) where
+  pub joined : Above (s .last) (r .tick) × (0 < bitAnd (s .mask) mask) → Fits grades-meaning s r × (bitAnd (s .mask) mask ≡ bitAnd (s .mask) (mask-of (r .row)))
+  joined j = let q = ap (bitAnd (s .mask)) e in (fits-from s r (j .0, omega (arith, j .1)), q)
 
--- the answers of a reading that joins and of one that does not: `mask` is its mask as the code holds it
-module _ (s : Grades) (r : Reading) (mask : ℕ) (f : form-refusal grades-meaning r ≡ None) (e : mask ≡ mask-of (r .row)) (u : mask ≡ 0 → ⊥) where
-  pub joined : Above (s .last) (r .tick) × (0 < bitAnd (s .mask) mask) → (refusal grades-meaning r ≡ None) × (Fits grades-meaning s r × (bitAnd (s .mask) mask ≡ bitAnd (s .mask) (mask-of (r .row))))
-  joined j = let q = ap (bitAnd (s .mask)) e in (passes r mask f e u, (fits-from s r (j .0, omega (arith, j .1)), q))
-
-  pub parted : (Above (s .last) (r .tick) × (0 < bitAnd (s .mask) mask) → ⊥) → (refusal grades-meaning r ≡ None) × (Fits grades-meaning s r → ⊥)
-  parted j = let q = ap (bitAnd (s .mask)) e in (passes r mask f e u, λ x. let h = fits-to s r x in j (h .0, omega (arith, h .1)))
+  pub apart : (Above (s .last) (r .tick) × (0 < bitAnd (s .mask) mask) → ⊥) → Fits grades-meaning s r → ⊥
+  apart j x = let q = ap (bitAnd (s .mask)) e in let h = fits-to s r x in j (h .0, omega (arith, h .1))

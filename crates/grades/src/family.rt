@@ -1,6 +1,7 @@
 ghost use mathlib.Core.Path.{_≡_};
 ghost use Prim.Native.Nat.{ℕ, _<_, _≤_};
 ghost use lib.Bits.{bitAnd};
+ghost use lib.Count.{trailingZeros};
 ghost use lib.ListN.{length};
 ghost use Rattle.std.specs.Orderings.{Decides};
 ghost use Rattle.std.specs.declared.option.Option.the-variants.{Some};
@@ -33,6 +34,25 @@ fn mask_of(row: &[u32]) -> Result<u32, Refusal>
     Ok(mask as u32)
 }
 
+// The mask of a reading; refuses by 5, 1, 2, and by 3 the empty mask.
+fn read_mask(tick: u32, row: &[u32]) -> Result<u32, Refusal>
+    ensures { λ r. ⌜ Answered (refusal grades-meaning (reading tick (now (row .entry)))) r (λ m. m ≡ mask-of (now (row .entry))) ⌝ }
+{
+    check_tick(tick)?;
+    let mask = mask_of(row)?;
+    if mask == 0 {
+        return Err(Refusal::new(Reason::NoChoice));
+    }
+    Ok(mask)
+}
+
+// The place of a mask's lowest set bit: its trailing zeros.
+fn lowest_bit(mask: u32) -> u32
+    ensures { λ r. ⌜ r ≡ trailingZeros 32 mask ⌝ }
+{
+    mask.trailing_zeros()
+}
+
 impl Grades {
     // Every grade, and nothing taken.
     pub fn new() -> Grades
@@ -51,20 +71,24 @@ impl Grades {
         is_above(self.last, tick) && self.mask & mask != 0
     }
 
+    // The grades that were allowed and are in the mask.
+    fn narrowed(&self, tick: u32, mask: u32) -> Grades
+        requires { ⌜ 0 < bitAnd (now self .mask) mask ⌝ }
+        ensures { λ r. ⌜ (r .mask ≡ bitAnd (now (self .entry) .mask) mask) × (r .last ≡ Some tick) ⌝ }
+    {
+        Grades {
+            mask: self.mask & mask,
+            last: Some(tick),
+        }
+    }
+
     // The state after taking the reading: none where it does not fit.
     fn next(&self, tick: u32, row: &[u32]) -> Result<Option<Grades>, Refusal>
         ensures { λ r. ⌜ Answered (refusal grades-meaning (reading tick (now (row .entry)))) r (Next grades-meaning (now (self .entry)) (reading tick (now (row .entry)))) ⌝ }
     {
-        check_tick(tick)?;
-        let mask = mask_of(row)?;
-        if mask == 0 {
-            return Err(Refusal::new(Reason::NoChoice));
-        }
+        let mask = read_mask(tick, row)?;
         if self.joins(tick, mask) {
-            Ok(Some(Grades {
-                mask: self.mask & mask,
-                last: Some(tick),
-            }))
+            Ok(Some(self.narrowed(tick, mask)))
         } else {
             Ok(None)
         }
@@ -77,7 +101,7 @@ impl Grades {
         ensures allowed { λ r. ⌜ bit r (now (self .entry) .mask) ≡ 1 ⌝ }
         ensures least { λ r. ⌜ ((g : ℕ) → bit g (now (self .entry) .mask) ≡ 1 → r ≤ g) ⌝ }
     {
-        self.mask.trailing_zeros()
+        lowest_bit(self.mask)
     }
 }
 

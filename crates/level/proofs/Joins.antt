@@ -10,7 +10,7 @@ use Rattle.std.specs.declared.option.Option.the-variants.{Some, None}
 use Rattle.family.specs.Readings.{Reading, Above}
 use Rattle.family.specs.Meaning.{Fits, form-refusal, refusal}
 use Rattle.family.specs.Bands.{low-of, high-of}
-use Rattle.family.proofs.Forms.{formed, first-none, if-none}
+use Rattle.family.proofs.Forms.{formed, refusal-parts}
 use Rattle.family.proofs.BandRange.{low-range}
 use Rattle.level.specs.declared.level.Level.{Level}
 use Rattle.level.specs.Levels.{level-meaning, Choice}
@@ -42,16 +42,19 @@ module _ (s : Level) (r : Reading) where
       let b1 = b .1 in
       (f .above, omega (arith, ints), omega (arith, ints))
 
--- the answer of a reading that joins: `lo` and `hi` are the ends of its band as the code holds them
-pub joined : (s t : Level) (r : Reading) (lo hi : ℤ) → form-refusal level-meaning r ≡ None → lo ≡ low-of (r .row) → hi ≡ high-of (r .row) → ltZ hi lo ≡ false
-    → Above (s .last) (r .tick) × (lo ≤ℤ s .high) × (s .low ≤ℤ hi)
-    → (t .low ≡ maxZ (s .low) lo) × (t .high ≡ minZ (s .high) hi) × (t .last ≡ Some (r .tick))
-    → (refusal level-meaning r ≡ None) × (Fits level-meaning s r × level-meaning .taken s r t)
-joined s t r lo hi f el eh u j n =
-    let v : ltZ (high-of (r .row)) (low-of (r .row)) ≡ false = rw (← el, ← eh) u in
-    let o : low-of (r .row) ≤ℤ high-of (r .row) = grind (arith, ints) in
-    let k : Overlaps s r = rw (← el, ← eh) j in
-    (first-none (form-refusal level-meaning r) _ f (if-none _ v), (fits-from s r f o k, (n .0 ∙ ap (maxZ (s .low)) el, n .1 ∙ ap (minZ (s .high)) eh, n .2)))
+-- what a reading that joins leaves: `lo` and `hi` are the ends of its band as the code holds them
+module _ (s : Level) (r : Reading) (lo hi : ℤ) (f : refusal level-meaning r ≡ None) (el : lo ≡ low-of (r .row)) (eh : hi ≡ high-of (r .row)) where
+  pub joined : (t : Level) → lo ≤ℤ hi → Above (s .last) (r .tick) × (lo ≤ℤ s .high) × (s .low ≤ℤ hi)
+      → (t .low ≡ maxZ (s .low) lo) × (t .high ≡ minZ (s .high) hi) × (t .last ≡ Some (r .tick))
+      → Fits level-meaning s r × level-meaning .taken s r t
+  joined t o j n =
+      let g = refusal-parts (form-refusal level-meaning r) (ltZ (high-of (r .row)) (low-of (r .row))) f .0 in
+      let k : Overlaps s r = rw (← el, ← eh) j in
+      let q : low-of (r .row) ≤ℤ high-of (r .row) = rw (← el, ← eh) o in
+      (fits-from s r g q k, (n .0 ∙ ap (maxZ (s .low)) el, n .1 ∙ ap (minZ (s .high)) eh, n .2))
+
+  pub apart : (Above (s .last) (r .tick) × (lo ≤ℤ s .high) × (s .low ≤ℤ hi) → ⊥) → Fits level-meaning s r → ⊥
+  apart j h = let k = fits-to s r h in j (k .0, rw el (k .1), rw eh (k .2))
 
 -- half of z, rounded down
 pub half-under : (z : ℤ) → (divEuclid z (pos 2) +ℤ divEuclid z (pos 2)) ≤ℤ z

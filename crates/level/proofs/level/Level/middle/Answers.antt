@@ -19,8 +19,8 @@ returns c =
     let t = s .top in
     let o = s .order in
     let f : SFits w32 (s .low +ℤ s .high) = search needs in
-    let r : SFits w32 (c .div-euclid .result) = search needs in
-    let v : toZ w32 (ofZ w32 (c .div-euclid .result)) ≡ middle s = toZ-ofZ w32 (c .div-euclid .result) r ∙ (simp toZ-ofZ at (c .div-euclid .ensures)) in
+    let r : SFits w32 (c .halved .result) = search needs in
+    let v : toZ w32 (ofZ w32 (c .halved .result)) ≡ middle s = toZ-ofZ w32 (c .halved .result) r ∙ (simp toZ-ofZ at (c .halved .ensures)) in
     record {
       value = v;
       rounded = (let u = half-under (s .low +ℤ s .high) in omega (arith, ints), let u = half-over (s .low +ℤ s .high) in omega (arith, ints));

@@ -1,0 +1,4 @@
+mod Bytes
+mod Ends
+mod Numerals
+mod Parts
