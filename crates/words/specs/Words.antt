@@ -30,9 +30,13 @@ word-of k n = kind-number k * 268435456 + natAbs (n +ℤ bias k)
 abbrev pub number-in : Kind → ℕ → ℤ
 number-in k w = pos (payload w) -ℤ bias k
 
+-- the word's top bits are the kind's number
+abbrev pub of-kind : Kind → ℕ → Bool
+of-kind k w = eqb (top-bits w) (kind-number k)
+
 -- the word is of the kind, and in range
 abbrev pub is-a : Kind → ℕ → Bool
-is-a k w = eqb (top-bits w) (kind-number k) && in-range k (number-in k w)
+is-a k w = of-kind k w && in-range k (number-in k w)
 
 -- the number that a word of the kind holds, if it is such a word
 abbrev pub held : Kind → ℕ → Option ℤ

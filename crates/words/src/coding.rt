@@ -4,7 +4,7 @@ ghost use Rattle.std.specs.declared.option.Option.the-variants.{Some};
 ghost use Prim.Native.Nat.{_+_, _*_, _<_};
 ghost use lib.IntN.{_+ℤ_, natAbs};
 ghost use Rattle.words.specs.Kinds.{kind-of, bias};
-ghost use Rattle.words.specs.Words.{top-bits, held, word-of, Made, Parts, Apart, Only};
+ghost use Rattle.words.specs.Words.{top-bits, payload, of-kind, held, word-of, Made, Parts, Apart, Only};
 use super::Kind;
 use super::Word;
 
@@ -28,13 +28,27 @@ fn parts(bits: u32) -> Option<(Kind, i32)>
     Some((kind, number))
 }
 
+// The low 28 bits of a word.
+pub fn payload(bits: u32) -> u32
+    ensures { λ r. ⌜ r ≡ payload bits ⌝ }
+{
+    bits % PAYLOADS
+}
+
 impl Kind {
+    // Whether the word's top bits are this kind's number.
+    pub fn names(self, bits: u32) -> bool
+        ensures { λ r. ⌜ r ≡ of-kind self bits ⌝ }
+    {
+        bits / PAYLOADS == self.number()
+    }
+
     // The number that the word holds, if it is of this kind and in range.
     pub fn read(self, bits: u32) -> Option<i32>
         ensures { λ r. ⌜ r ≡ held self bits ⌝ }
     {
         let number = (bits % PAYLOADS) as i32 - self.bias();
-        if bits / PAYLOADS == self.number() && self.holds(number) {
+        if self.names(bits) && self.holds(number) {
             Some(number)
         } else {
             None

@@ -8,6 +8,7 @@ mod refusal;
 mod tick;
 mod word;
 
+pub use coding::payload;
 pub use kind::Kind;
 pub use kind::KindDebug;
 pub use kind::KindEq;
