@@ -1,0 +1,4 @@
+pub mod Tapes
+pub mod Reads
+pub mod Spans
+pub mod Items
