@@ -1,0 +1,9 @@
+pub mod Writes
+pub mod Readies
+pub mod Ticks
+pub mod Records
+pub mod Base
+pub mod Invariant
+pub mod Lawful
+pub mod Whole
+pub mod Asks
