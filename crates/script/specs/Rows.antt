@@ -70,8 +70,6 @@ Writes bs i = As-mask bs (Some i) ⊎ (As-word bs (Some i) ⊎ As-band bs (Some 
 
 -- what is wrong with a text that is no item
 abbrev pub Slipped : List ℕ → Slip → Type 0
-Slipped bs slips.Family = ⊥
-Slipped bs slips.Tick = ⊥
 Slipped bs slips.End = As-band bs None
 Slipped bs slips.Mask = As-mask bs None
 Slipped bs slips.Word = As-word bs None

@@ -1,20 +1,36 @@
-// Reads a script from standard input to its end, and prints the answer.
-use batches::Failure;
-use batches::FailureDebug;
-use batches::FailureDisplay;
-use batches::FailureFromIo;
-use std::io::Read;
+// Reads a script from standard input, a command a line, and prints one answer line for each command.
+use desk::Answer;
+use desk::AnswerDisplay;
+use desk::Desk;
+use std::io;
+use std::io::BufRead;
+use std::io::BufReader;
 
-fn main(rt: LibcRuntime) -> Result<(), Failure> {
+fn show(rt: &LibcRuntime, answer: Option<Answer>) -> io::Result<()> {
+    match answer {
+        Some(answer) => println!(rt, "{answer}"),
+        None => Ok(()),
+    }
+}
+
+fn main(rt: LibcRuntime) -> io::Result<()> {
     let heap = rt.alloc();
-    let mut script = Vec::new(heap);
-    let _ = rt.stdin().read_to_end(&mut script)?;
-    match batches::answer(heap, script.as_slice()) {
-        Ok(text) => print!(rt, "{text}")?,
-        Err(failure) => {
-            eprintln!(rt, "traces: {failure}")?;
-            return Err(failure);
+    let mut desk = Desk::new();
+    let mut told = Ok(());
+    for line in BufReader::new(rt.stdin()).split(heap, b'\n') {
+        let (next, shown) = match line {
+            Ok(line) => {
+                let (next, answer) = desk.reply(heap, line.as_slice());
+                (next, show(&rt, answer))
+            }
+            Err(e) => (desk, Err(e)),
+        };
+        desk = next;
+        if shown.is_err() {
+            told = shown;
+            break;
         }
     }
-    Ok(())
+    desk.end();
+    told
 }
