@@ -3,6 +3,8 @@
 //     bench FAMILY READINGS RUN
 //
 // records READINGS readings for the family `level`, `grades` or `line`; a new segment begins after every RUN of them.
+#![tactic(auto)]
+
 mod measure;
 mod rows;
 

@@ -1,4 +1,6 @@
 // Runs the scripts that the file `names` lists, and says of each whether its answers are those written beside it.
+#![tactic(auto)]
+
 use std::alloc::Global;
 use std::{fs, io};
 

@@ -1,5 +1,7 @@
 // The theory of fewest cuttings, over every family: what parts accepted readings into runs, and why a tape that lets each
 // reading join the open run where it can has as few runs as any permitted cutting. It knows no words and no store.
+#![tactic(auto)]
+
 ghost use Rattle.cuttings.specs.Cutting.{BestCut, Served};
 
 use family::Family;

@@ -4,6 +4,8 @@
 // member `meaning` says all of that; its calls are equated with the meaning, refusals included; and its law `laws` is what
 // every family owes and generic code may use. `checks` and `band` are the small tests that families share, `run` is what
 // holds of runs for all families together.
+#![tactic(auto)]
+
 mod band;
 mod checks;
 mod family;

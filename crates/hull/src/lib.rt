@@ -4,6 +4,8 @@
 //
 // High ends are kept turned over: their heights negated. A line is not above a high end exactly where the line turned over
 // is not below the end turned over, so that both hulls are upper hulls, and one push, one walk and one set of facts serve both.
+#![tactic(auto)]
+
 mod growth;
 mod hull;
 mod law;

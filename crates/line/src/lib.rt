@@ -3,8 +3,10 @@
 //
 // `line` is the state, with what its numbers keep; `state` takes readings in; `choose` picks; `pick` is a pick's four words, its
 // lawfulness and its values; `family` is the trait's calls over them. Slopes and hulls stand in crates of their own.
+#![tactic(auto)]
+
+mod calls;
 mod choose;
-mod family;
 mod line;
 mod pick;
 mod state;

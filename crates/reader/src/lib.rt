@@ -3,6 +3,8 @@
 //
 // `check` says whether the words are a lawful tape, and where not; `value` and `item_at` check and then read; a
 // `CheckedTape` checks once and then reads as often as is wanted, with the same answers.
+#![tactic(auto)]
+
 mod checked;
 mod items;
 mod reading;

@@ -25,7 +25,7 @@ use Rattle.recorder.specs.Phases.{running}
 use Rattle.recorder.specs.Steps.{View, Outcome, refused, longer, begun, cut, ended, idle, outcome, outcome_of, opened_refusal, late_refusal, unless_due, answer_by, view_by, store_by, StateBy, opened_view}
 use Rattle.recorder.specs.Recording.{event_of, early_refusal, Began, By, Seen, RecordedBy, Kept, count_by}
 use Rattle.recorder.specs.Histories.{World, noted, parted, Opened, Recorded, Marked, Asked, Closed, Dealt, opened as tape-opened, recorded, marked as tape-marked, asked_at}
-use Rattle.recorder.specs.Law.{Fit, not_above, batch_open, reading_refusal, NoPlace, RecordAnswer, MarkAnswer}
+use Rattle.recorder.specs.Law.{Fit, not_above, batch_open, reading_refusal, HasNoPlace, RecordAnswer, MarkAnswer}
 use Rattle.recorder.proofs.Readies.{fresh_fits}
 use Rattle.recorder.proofs.Ticks.{run_last, last_is_run_last, Spanned, accepted_push}
 use Rattle.recorder.proofs.Records.{Rec, flat, shape, Took, Held, Holds}
@@ -104,7 +104,7 @@ module _ {S : Type 0} (m : Meaning S) where
     parts = part_served m.serves
 
     -- with a place for each of the tape's runs not every cutting wants more
-    placed : (log : List Event) (runs : List (List Reading)) (r : Reading) (places : ℕ) → TapeRuns (Fit m) (log ▹ read r) runs → length runs ≤ places → NoPlace m log r places → ⊥
+    placed : (log : List Event) (runs : List (List Reading)) (r : Reading) (places : ℕ) → TapeRuns (Fit m) (log ▹ read r) runs → length runs ≤ places → HasNoPlace m log r places → ⊥
     placed log runs r places g h all = let k = (tape_needs (Fit m) parts g places).0 all in omega arith
 
     module _ (log : List Event) (recs : List Rec) (done : List (List Reading)) (wd len pl n : ℕ) (s : S) (store : List ℕ) (b : Base m log recs done wd len pl n store)
@@ -113,7 +113,7 @@ module _ {S : Type 0} (m : Meaning S) where
       After-it = Inv (noted log r a) v' s' store' × RecordAnswer m log r pl (v'.written + running v'.phase) None a
 
       -- refused for want of a place
-      no_place : (q : Phase) (o : Open s log recs done q) → n + running q ≤ pl → last_tick (readings log) ≡ clock_of q → By m (five wd len pl n q) s store r v' s' store' a (refused (refusal_of NoPlace)) → NoPlace m log r pl → After-it
+      no_place : (q : Phase) (o : Open s log recs done q) → n + running q ≤ pl → last_tick (readings log) ≡ clock_of q → By m (five wd len pl n q) s store r v' s' store' a (refused (refusal_of NoPlace)) → HasNoPlace m log r pl → After-it
       no_place q o room clock by none =
           subst (λ (x : Result ℕ Refusal). Inv (noted log r x) v' s' store' × RecordAnswer m log r pl (v'.written + running v'.phase) None x) (sym by.answer) (
             inv_same log (five wd len pl n q) v' s s' store store' by.tape by.state by.words
@@ -122,7 +122,7 @@ module _ {S : Type 0} (m : Meaning S) where
           )
 
       -- accepted
-      taken : (k : ℕ) (v : View) (st : List ℕ) → a ≡ Ok k → v' ≡ v → store' ≡ st → k ≡ v.written + running v.phase → (NoPlace m log r pl → ⊥) → Inv (log ▹ read r) v s' st → After-it
+      taken : (k : ℕ) (v : View) (st : List ℕ) → a ≡ Ok k → v' ≡ v → store' ≡ st → k ≡ v.written + running v.phase → (HasNoPlace m log r pl → ⊥) → Inv (log ▹ read r) v s' st → After-it
       taken k v st e tape words count more i =
           subst (λ (x : Result ℕ Refusal). Inv (noted log r x) v' s' store' × RecordAnswer m log r pl (v'.written + running v'.phase) None x) (sym e)
           (inv_same (log ▹ read r) v v' s' s' st store' tape refl words i, (count ∙ ap (λ (x : View). x.written + running x.phase) (sym tape), more))

@@ -74,14 +74,14 @@ module _ {S : Type 0} (m : Meaning S) where
   reading_refusal log r = first_refusal (refuse_if (not_above (last_tick (readings log)) r.tick) BadTick) (refusal m r)
 
   -- every permitted cutting of the accepted readings with this one added has more runs than there are places
-  abbrev pub NoPlace : List Event → Reading → ℕ → Type 0
-  NoPlace log r places = (cuts : List (List Reading)) → Permitted Fit (log ▹ read r) cuts → places < length cuts
+  abbrev pub HasNoPlace : List Event → Reading → ℕ → Type 0
+  HasNoPlace log r places = (cuts : List (List Reading)) → Permitted Fit (log ▹ read r) cuts → places < length cuts
 
   -- a recording's answer, where n is the number of segments then
   abbrev pub RecordAnswer : List Event → Reading → ℕ → ℕ → Option Refusal → Result ℕ Refusal → Type 0
   RecordAnswer log r places n (Some f) a = a ≡ Err f
-  RecordAnswer log r places n None (Ok k) = (k ≡ n) × (NoPlace log r places → ⊥)
-  RecordAnswer log r places n None (Err f) = (f ≡ refusal_of NoPlace) × NoPlace log r places
+  RecordAnswer log r places n None (Ok k) = (k ≡ n) × (HasNoPlace log r places → ⊥)
+  RecordAnswer log r places n None (Err f) = (f ≡ refusal_of NoPlace) × HasNoPlace log r places
 
   -- a mark's answer: refused by 6 where nothing was accepted since opening or the last mark
   abbrev pub MarkAnswer : Bool → Result Unit Refusal → Type 0

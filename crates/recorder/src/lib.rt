@@ -2,6 +2,8 @@
 // them, whatever the family.
 //
 // The open tape holds plain numbers; the family's state and the store are lent for each call. It must be spent by closing.
+#![tactic(auto)]
+
 mod ask;
 mod calls;
 mod step;

@@ -54,7 +54,7 @@ pub mul_le : (k a b : ℤ) → pos 0 ≤ℤ k → a ≤ℤ b → (k *ℤ a) ≤�
 mul_le k a b h g = let d : pos 0 ≤ℤ (b -ℤ a) = omega (arith, lins) in omega (arith, lins, simp ring at (mul_nonneg k (b -ℤ a) h d))
 
 pub mul_pos : (k b : ℤ) → pos 0 <ℤ k → pos 0 <ℤ b → pos 0 <ℤ (k *ℤ b)
-mul_pos (pos k) (pos b) h g = let p : 0 < k = omega (arith, ints) in let q : 0 < b = omega (arith, ints) in omega (arith, ints, N.mul_pos p q)
+mul_pos (pos k) (pos b) h g = let p : 0 < k = omega (arith, ints) in let q : 0 < b = omega (arith, ints) in omega (arith, ints, N.mul-pos p q)
 mul_pos (pos k) (negsuc b) h g = absurd (omega (arith, ints))
 mul_pos (negsuc k) b h g = absurd (omega (arith, ints))
 

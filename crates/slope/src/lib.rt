@@ -1,5 +1,7 @@
 // Slopes in whole numbers. A slope is a pair of a rise and an over: it rises by `rise` while `over` ticks pass.
 // Slopes are compared by cross products, so nothing is ever rounded, except a value read off a line, which is rounded down.
+#![tactic(auto)]
+
 mod bounds;
 mod compare;
 mod divisor;

@@ -1,4 +1,6 @@
 // Reads a script from standard input, a command a line, and prints one answer line for each command.
+#![tactic(auto)]
+
 use desk::{Answer, Desk};
 use std::io;
 use std::io::{BufRead, BufReader};

@@ -1,4 +1,6 @@
 // Worked examples as tests: the boundary words of each kind, and what level and grades pick and refuse.
+#![tactic(auto)]
+
 #[cfg(test)]
 mod tests {
     use family::{Family, extend};

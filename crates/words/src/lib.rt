@@ -2,6 +2,8 @@
 //
 // A word's top four bits are its kind and its low 28 bits its payload. `Kind` names the kinds, `Word` is a word of a
 // known kind that is in range, and `Reason` and `Refusal` say why a call was refused and where.
+#![tactic(auto)]
+
 mod coding;
 mod kind;
 mod refusal;

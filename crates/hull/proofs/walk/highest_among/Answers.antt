@@ -7,7 +7,7 @@ use Rattle.hull.proofs.walk.highest_among.Goals as goal
 
 pub loop-p-preserved : goal.loop-p-preserved
 loop-p-preserved c =
-    c.or-higher-best.ensures ∙ ap (λ (z : Point). higher c.args.slope z (get_or c.args.points.now c.loop-p.p-index origin)) c.loop-p.invariant
+    c.or_higher-best.ensures ∙ ap (λ (z : Point). higher c.args.slope z (get_or c.args.points.now c.loop-p.p-index origin)) c.loop-p.invariant
     ∙ sym (fold_more (higher c.args.slope) _ c.args.points.now c.loop-p.p-index origin c.loop-p-test.true)
 
 pub returns : goal.returns

@@ -11,6 +11,6 @@ returns g c =
     let store = c.args.store.now in
     let row = c.args.row.now in
     let t = c.args.tick in
-    let width = ap (λ (w : ℕ). span_value m w store t (length row) c.locate-in-found.result) c.pick_width.ensures in
-    let found = ap (λ (r : Result ℕ Refusal). span_value m m.pick_width store t (length row) r) c.locate-in-found.ensures in
-    subst (λ (a : Result (List ℕ) Refusal). AnswersRow a row c.read-found.result c.read-found.new.row) (width ∙ found ∙ same_read m store t (length row)) c.read-found.ensures
+    let width = ap (λ (w : ℕ). span_value m w store t (length row) c.locate_in-found.result) c.pick_width.ensures in
+    let found = ap (λ (r : Result ℕ Refusal). span_value m m.pick_width store t (length row) r) c.locate_in-found.ensures in
+    subst (λ (a : Result (List ℕ) Refusal). AnswersRow a row c.read_found.result c.read_found.new.row) (width ∙ found ∙ same_read m store t (length row)) c.read_found.ensures

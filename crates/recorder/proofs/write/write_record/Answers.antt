@@ -18,6 +18,6 @@ returns g c =
       words = stored (place_at c.args.width c.args.index) c.args.width c.args.store.now ws
           (first_word c.args.batch c.args.first) (word_of End (pos c.args.last)) (count_word (c.args.index + 1)) long
           (record_end c.args.index c.args.width (length c.args.store.now) c.requires.within)
-          c.place-at-at.result c.pick.new.slot c.first-word.result c.word.result
-          c.place-at-at.ensures c.in-ok-pick.ensures.1 c.first-word.ensures c.word.ensures c.write-count.new.store c.write-count.ensures;
+          c.place_at-at.result c.pick.new.slot c.first_word.result c.word.result
+          c.place_at-at.ensures c.in_ok-pick.ensures.1 c.first_word.ensures c.word.ensures c.write_count.new.store c.write_count.ensures;
     }

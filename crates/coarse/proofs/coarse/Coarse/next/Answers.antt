@@ -8,8 +8,8 @@ pub returns-then-joins : goal.returns-then-joins
 returns-then-joins c =
     let s = c.args.self.now in
     let r = reading c.args.tick c.args.row.now in
-    let steps = c.in-ok-steps.steps in
-    let e = c.in-ok-steps.ensures in
+    let steps = c.in_ok-steps.steps in
+    let e = c.in_ok-steps.ensures in
     let b = e.1 in (
       e.0,
       (
@@ -22,7 +22,7 @@ pub returns-else-joins : goal.returns-else-joins
 returns-else-joins c =
     let s = c.args.self.now in
     let r = reading c.args.tick c.args.row.now in
-    let steps = c.in-ok-steps.steps in
-    let e = c.in-ok-steps.ensures in
+    let steps = c.in_ok-steps.steps in
+    let e = c.in_ok-steps.ensures in
     let b = e.1 in
     (e.0, λ f. absurd (false≢true (c.if-joins.ensures.1 (fits_to s r steps.low steps.high b.1 b.2 f))))

@@ -8,7 +8,7 @@ pub returns : goal.returns
 returns c =
     let s = c.args.self.now in
     let b = s.small in
-    let e = c.lowest-bit.ensures in
+    let e = c.lowest_bit.ensures in
     record {
       value = e;
       small = subst (λ (g : ℕ). g < 28) (sym e) (grades_picked s).below;

@@ -7,4 +7,4 @@ pub returns-then-self-lt2 : goal.returns-then-self-lt2
 returns-then-self-lt2 c = sym (covered_few c.args.self.now.points c.args.self.now.len c.args.p c.if-self-lt2.true)
 
 pub returns : goal.returns
-returns c = ap not c.is-above.ensures ∙ sym (covered_two c.args.self.now.points c.args.self.now.len origin c.args.p (omega arith) (omega arith))
+returns c = ap not c.is_above.ensures ∙ sym (covered_two c.args.self.now.points c.args.self.now.len origin c.args.p (omega arith) (omega arith))

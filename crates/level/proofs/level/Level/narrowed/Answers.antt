@@ -2,8 +2,8 @@ use Rattle.std.proofs.Common.{arith, rules}
 use Rattle.std.proofs.lemmas.Int.{ints, clamps}
 use Rattle.level.proofs.level.Level.narrowed.Goals as goal
 
-pub invariant-of-result : goal.invariant-of-result
-invariant-of-result c =
+pub invariant_of-result : goal.invariant_of-result
+invariant_of-result c =
     let s = c.args.self.now in
     let b = s.bottom in
     let o = s.order in
@@ -13,4 +13,8 @@ invariant-of-result c =
     let r = c.requires.1.1 in
     let x = c.max.ensures.value in
     let y = c.min.ensures.value in
-    (omega (arith, ints, clamps), (omega (arith, ints, clamps), (omega (arith, ints, clamps), tt)))
+    record {
+      bottom = omega (arith, ints, clamps);
+      order = omega (arith, ints, clamps);
+      top = omega (arith, ints, clamps);
+    }

@@ -10,6 +10,6 @@ returns-in-Err g c = record {
 
 pub returns : goal.returns
 returns g c = record {
-  is = answered_row _ _ c.answer.result c.args.row.now c.answer.new.row c.in-default.ensures.0 c.answer.ensures;
+  is = answered_row _ _ c.answer.result c.args.row.now c.answer.new.row c.in_default.ensures.0 c.answer.ensures;
   law = λ log d. law g.F.Family.meaning g.met.F.Family.laws log _ d;
 }

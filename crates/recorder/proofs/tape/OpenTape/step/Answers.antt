@@ -3,8 +3,8 @@ use Rattle.recorder.specs.Phases.{running, open_first, open_last}
 use Rattle.recorder.proofs.Writes.{room_for}
 use Rattle.recorder.proofs.tape.OpenTape.step.Goals as goal
 
-pub write-record-requires : goal.write-record-requires
-write-record-requires g c =
+pub write_record-requires : goal.write_record-requires
+write_record-requires g c =
     let t = c.args.self.now in
     let is = c.in-Running-Unfitting.is-0 in
     let one = ap running is in
@@ -18,8 +18,8 @@ write-record-requires g c =
       timely = (omega (arith, first, last), omega (arith, last));
     }
 
-pub write-record-requires-in-Running-Mark : goal.write-record-requires-in-Running-Mark
-write-record-requires-in-Running-Mark g c =
+pub write_record-requires-in-Running-Mark : goal.write_record-requires-in-Running-Mark
+write_record-requires-in-Running-Mark g c =
     let t = c.args.self.now in
     let is = c.in-Running-Mark.is-0 in
     let one = ap running is in

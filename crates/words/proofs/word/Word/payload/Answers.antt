@@ -4,8 +4,8 @@ use Rattle.words.specs.Kinds.{bias}
 use Rattle.words.proofs.RoundTrip.{room, payload_small}
 use Rattle.words.proofs.word.Word.payload.Goals as goal
 
-pub overflow-cast-result : goal.overflow-cast-result
-overflow-cast-result c =
+pub overflow_cast-result : goal.overflow_cast-result
+overflow_cast-result c =
     let r = room c.args.self.kind in
     let e = c.bias.ensures in
     let l = c.args.self.low in

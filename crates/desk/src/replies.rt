@@ -40,10 +40,11 @@ fn add(out: &mut String, answer: Option<Answer>) -> io::Result<()> {
 
 // All answers to a script, a line each.
 pub fn transcript(heap: Global, script: &[u8]) -> io::Result<String> {
+    let lines = BufReader::new(heap, script)?.split(heap, b'\n');
     let mut desk = Desk::new();
     let mut out = String::new(heap);
     let mut told = Ok(());
-    for line in BufReader::new(heap, script)?.split(heap, b'\n') {
+    for line in lines {
         let (next, added) = match line {
             Ok(line) => {
                 let (next, answer) = desk.reply(heap, line.as_slice());

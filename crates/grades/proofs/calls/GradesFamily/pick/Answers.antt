@@ -3,11 +3,11 @@ use Rattle.std.proofs.lemmas.Int.{ints}
 use Rattle.words.specs.declared.kind.Kind.TheVariants.{Grade as GradeKind}
 use Rattle.words.specs.Words.{word_of}
 use Rattle.family.proofs.Forms.{slot_filled}
-use Rattle.grades.proofs.family.GradesFamily.pick.Goals as goal
+use Rattle.grades.proofs.calls.GradesFamily.pick.Goals as goal
 
 pub returns : goal.returns
 returns c =
-    let e = c.in-ok-check-length.ensures in
+    let e = c.in_ok-check_length.ensures in
     let b = c.lowest.ensures.small in
     let z : to_z w32 c.lowest.result ≡ pos c.lowest.result = omega (arith, ints) in (
       e.0,

@@ -3,11 +3,11 @@ use Rattle.std.proofs.lemmas.Int.{to_z-of_z}
 use Rattle.words.specs.declared.kind.Kind.TheVariants.{Level as LevelKind}
 use Rattle.words.specs.Words.{word_of}
 use Rattle.family.proofs.Forms.{slot_filled}
-use Rattle.coarse.proofs.family.CoarseFamily.pick.Goals as goal
+use Rattle.coarse.proofs.calls.CoarseFamily.pick.Goals as goal
 
 pub returns : goal.returns
 returns c =
-    let e = c.in-ok-check-length.ensures in
+    let e = c.in_ok-check_length.ensures in
     let n : SFits w32 c.lowest.result = search rules in
     let z = to_z-of_z w32 c.lowest.result n ∙ c.lowest.ensures in (
       e.0,

@@ -1,0 +1,24 @@
+use Rattle.family.specs.Readings.{reading}
+use Rattle.line.specs.Sloped.{slope_positive}
+use Rattle.line.proofs.Stepping.{step_sound, tick_small, room_after, span_after, stepped_at}
+use Rattle.line.proofs.calls.LineFamily.take.Goals as goal
+
+pub invariant_of-self : goal.invariant_of-self
+invariant_of-self c =
+    let s = c.args.self.now in
+    let r = reading c.args.tick c.args.row.now in
+    let e = c.in_ok-step.ensures in
+    let d = c.in-Some.step in
+    let f = stepped_at s r d c.in_ok-step.field-0 c.in-Some.is e.1 in
+    let first' = c.first_with-self.result in
+    let k = c.push_ends.ensures in
+    let lows' = c.push_ends.new.lows in
+    let highs' = c.push_ends.new.highs in
+    let x = step_sound r e.0 s d f lows' highs' first' k.lows k.highs c.first_with-self.ensures in
+    let b = span_after s r first' c.first_with-self.ensures f.1 (tick_small r e.0) in
+    record {
+      room = room_after s r first' c.first_with-self.ensures f.1 lows' highs' k.room.0 k.room.1 k.room.2;
+      span = b;
+      positive = slope_positive _ _ _ _ _ _ x;
+      sound = x;
+    }
