@@ -14,9 +14,10 @@ fn show(rt: &HostRuntime, answer: Option<Answer>) -> io::Result<()> {
 
 fn main(rt: HostRuntime) -> io::Result<()> {
     let heap = rt.alloc();
+    let lines = BufReader::new(heap, rt.stdin())?.split(heap, b'\n');
     let mut desk = Desk::new();
     let mut told = Ok(());
-    for line in BufReader::new(heap, rt.stdin())?.split(heap, b'\n') {
+    for line in lines {
         let (next, shown) = match line {
             Ok(line) => {
                 let (next, answer) = desk.reply(heap, line.as_slice());
