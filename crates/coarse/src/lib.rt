@@ -3,7 +3,7 @@
 // LEVEL word. It is written against the trait `Family` alone.
 #![tactic(auto)]
 
-mod coarse;
 mod calls;
+mod coarse;
 
 pub use coarse::Coarse;

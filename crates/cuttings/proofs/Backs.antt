@@ -1,11 +1,10 @@
 -- A permitted cutting without the log's last event.
-use Rattle.std.proofs.Common.{◌≡◌, ℕ, suc, ◌+◌, ◌<◌, ◌≤◌, List, [], ◌∷◌, ◌++◌, length, sym, refl, ap, ◌∙◌, subst, append_assoc, arith, length-append}
-use Rattle.std.specs.List.{AllByRecursion as All}
+use Rattle.std.proofs.Common.{◌≡◌, ◌<◌, List, [], ◌∷◌, ◌++◌, length, sym, refl, ap, ◌∙◌, subst, append_assoc, arith, length-append}
 use Rattle.std.proofs.lemmas.List.{append-nil}
 use Rattle.std.proofs.ByRecursion.{All-push}
 use Rattle.family.specs.Readings.{Reading, ◌▹◌}
 use Rattle.cuttings.specs.Cutting.{joined, Event, read, mark, readings, Parted, Permitted}
-use Rattle.cuttings.proofs.Ends.{Ended, empty, ends, ended, not_nil, same_front, same_last, all_init, all_last, all_left, all_right, joined_append, joined_push, readings_append}
+use Rattle.cuttings.proofs.Ends.{Ended, empty, ends, ended, not_nil, same_front, same_last, all_init, all_last, joined_push}
 use Rattle.cuttings.proofs.Permits.{readings_read, readings_mark}
 
 -- the runs past a mark, without the last reading

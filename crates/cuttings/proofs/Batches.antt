@@ -1,5 +1,5 @@
 -- Between two marks the tape's runs are those of a tape that got the batch alone.
-use Rattle.std.proofs.Common.{◌≡◌, ℕ, suc, ◌+◌, ◌<◌, ◌≤◌, ◌⊎◌, List, [], ◌∷◌, ◌++◌, map, length, sym, refl, ap, ◌∙◌, subst, inl, inr, append_assoc, arith, length-append}
+use Rattle.std.proofs.Common.{◌≡◌, ℕ, ◌≤◌, ◌⊎◌, List, [], ◌∷◌, ◌++◌, map, sym, refl, ap, ◌∙◌, subst, inl, inr, append_assoc, arith}
 use Rattle.std.proofs.lemmas.List.{append-nil}
 use Rattle.family.specs.Readings.{Reading, ◌▹◌}
 use Rattle.cuttings.specs.Cutting.{joined, held, Event, read, mark, readings, Batch, Parted, Permitted, TapeRuns, opened, marked, first, after_mark, joins, begins}

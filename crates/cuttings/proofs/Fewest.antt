@@ -1,11 +1,9 @@
 -- No permitted cutting of a log has fewer runs than the tape's own, and none is farther after its first k runs.
-use Rattle.std.proofs.Common.{◌≡◌, ℕ, suc, ◌+◌, ◌<◌, ◌≤◌, ◌⊎◌, ◌↔◌, List, [], ◌∷◌, ◌++◌, length, take, drop, sym, refl, ap, ◌∙◌, subst, inl, inr, append_assoc, arith, length-append, take-append-drop, take_all}
+use Rattle.std.proofs.Common.{◌≡◌, ℕ, ◌+◌, ◌<◌, ◌≤◌, ◌↔◌, List, [], ◌∷◌, ◌++◌, length, sym, refl, ap, ◌∙◌, subst, append_assoc, arith, length-append}
 use native.Mathlib.Decide.{dec_lt}
-use lib.Seq.{take-append-le}
 use Rattle.std.proofs.lemmas.List.{append-nil}
 use Rattle.family.specs.Readings.{Reading, ◌▹◌}
-use Rattle.cuttings.specs.Cutting.{joined, held, Event, read, mark, readings, Parted, Permitted, TapeRuns, opened, marked, first, after_mark, joins, begins}
-use Rattle.cuttings.proofs.Ends.{joined_append}
+use Rattle.cuttings.specs.Cutting.{Event, read, mark, Parted, Permitted, TapeRuns, opened, marked, first, after_mark, joins, begins}
 use Rattle.cuttings.proofs.Permits.{permit_none, permit_mark, permit_alone, permit_joined}
 use Rattle.cuttings.proofs.Backs.{Step, alone, joined_to, mark_back, read_back, fresh_back}
 

@@ -1,11 +1,10 @@
 -- A permitted cutting, one event on and one event back.
-use Rattle.std.proofs.Common.{◌≡◌, ℕ, suc, ◌+◌, ◌<◌, ◌≤◌, ◌⊎◌, List, [], ◌∷◌, ◌++◌, length, sym, refl, ap, ◌∙◌, subst, inl, inr, append_assoc, arith, length-append}
-use Rattle.std.specs.List.{AllByRecursion as All}
+use Rattle.std.proofs.Common.{◌≡◌, ℕ, ◌<◌, List, [], ◌∷◌, ◌++◌, length, sym, refl, ap, ◌∙◌, append_assoc, arith, length-append}
 use Rattle.std.proofs.lemmas.List.{append-nil}
 use Rattle.std.proofs.ByRecursion.{All-push}
 use Rattle.family.specs.Readings.{Reading, ◌▹◌}
 use Rattle.cuttings.specs.Cutting.{joined, Event, read, mark, readings, Served, Parted, Permitted}
-use Rattle.cuttings.proofs.Ends.{Ended, empty, ends, ended, not_nil, same_front, same_last, all_init, all_last, all_left, all_right, joined_append, joined_push, readings_append}
+use Rattle.cuttings.proofs.Ends.{Ended, empty, ends, ended, not_nil, same_front, same_last, all_init, all_left, all_right, joined_push, readings_append}
 
 -- where the mark stands in a log that got one more event
 pub data Split (log : List Event) (e : Event) (before after : List Event) : Type 0 where

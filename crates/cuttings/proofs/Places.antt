@@ -1,5 +1,5 @@
 -- When a place is missing for one more reading.
-use Rattle.std.proofs.Common.{◌≡◌, ℕ, ◌+◌, ◌<◌, ◌≤◌, ◌↔◌, List, [], ◌∷◌, ◌++◌, length, sym, refl, ap, ◌∙◌, subst, arith}
+use Rattle.std.proofs.Common.{◌≡◌, ℕ, ◌<◌, ◌≤◌, ◌↔◌, List, [], ◌∷◌, length, arith}
 use Rattle.family.specs.Readings.{Reading, ◌▹◌}
 use Rattle.cuttings.specs.Cutting.{Event, read, mark, Parted, Permitted, TapeRuns, first, after_mark, joins, begins, BestCut}
 use Rattle.cuttings.proofs.Fewest.{length_push, tape_permitted, tape_fewest, tape_needs}

@@ -1,9 +1,9 @@
 -- The first k runs of the tape hold as many readings as those of any permitted cutting.
-use Rattle.std.proofs.Common.{◌≡◌, ℕ, suc, ◌+◌, ◌<◌, ◌≤◌, List, [], ◌∷◌, ◌++◌, length, take, drop, sym, refl, ap, ◌∙◌, subst, append_assoc, arith, length-append, take-append-drop, take_all}
+use Rattle.std.proofs.Common.{◌≡◌, ℕ, ◌<◌, ◌≤◌, List, [], ◌∷◌, ◌++◌, length, take, drop, sym, ap, ◌∙◌, arith, length-append, take-append-drop, take_all}
 use native.Mathlib.Decide.{dec_lt}
 use lib.Seq.{take-append-le}
 use Rattle.family.specs.Readings.{Reading, ◌▹◌}
-use Rattle.cuttings.specs.Cutting.{joined, held, Event, read, mark, readings, Parted, Permitted, TapeRuns, opened, marked, first, after_mark, joins, begins}
+use Rattle.cuttings.specs.Cutting.{joined, held, Event, read, mark, Parted, Permitted, TapeRuns, opened, marked, first, after_mark, joins, begins}
 use Rattle.cuttings.proofs.Ends.{joined_append}
 use Rattle.cuttings.proofs.Backs.{Step, alone, joined_to, mark_back, read_back}
 use Rattle.cuttings.proofs.Fewest.{length_push, tape_permitted, tape_fewest}

@@ -1,11 +1,8 @@
 -- A run of readings with rising ticks is what lies from its first tick to its last.
-use Rattle.std.proofs.Common.{◌≡◌, ℕ, ◌+◌, ◌<◌, ◌≤◌, List, [], ◌∷◌, ◌++◌, sym, refl, ap, ◌∙◌, subst, append_assoc, arith}
-use native.Mathlib.Decide.{dec_le}
+use Rattle.std.proofs.Common.{ℕ, ◌<◌, ◌≤◌, List, [], ◌∷◌, ◌++◌, subst, append_assoc, arith}
 use Rattle.std.specs.List.{AllByRecursion as All}
-use Rattle.std.proofs.ByRecursion.{All-weaker}
-use Rattle.std.proofs.lemmas.List.{append-nil}
 use Rattle.family.specs.Readings.{Reading, ◌▹◌}
-use Rattle.cuttings.proofs.Ends.{all_left, all_right, all_last}
+use Rattle.cuttings.proofs.Ends.{all_left, all_right}
 
 -- of the readings just those from one tick to another, in their order
 pub data Spanned (from to : ℕ) : List Reading → List Reading → Type 0 where

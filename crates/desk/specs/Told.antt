@@ -1,10 +1,8 @@
 -- What is told of the calls, and what an open tape is guarded from.
-use Rattle.std.specs.Prelude.{◌≡◌, ℕ, Bool, true, false, Some, None, Ok, Err, Option, Result}
+use Rattle.std.specs.Prelude.{ℕ, Bool, true, false, Some, None, Ok, Err, Option, Result}
 use Rattle.words.specs.declared.refusal.Refusal.{Refusal}
 use Rattle.commands.specs.declared.command.Command.{Command}
 use Rattle.commands.specs.declared.command.Command.TheVariants as commands
-use Rattle.desk.specs.declared.problem.Problem.{Problem}
-use Rattle.desk.specs.declared.problem.Problem.TheVariants as problems
 use Rattle.desk.specs.declared.answer.Answer.{Answer}
 use Rattle.desk.specs.declared.answer.Answer.TheVariants as answers
 use Rattle.desk.specs.declared.tape.Tape.{Tape}

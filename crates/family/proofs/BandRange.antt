@@ -1,6 +1,5 @@
 -- A row of a LOW and a HIGH word in range has ends from −1,000,000 to 1,000,000.
 use Rattle.std.proofs.Common.{◌≡◌, ℕ, ◌<◌, Bool, true, false, cond, eqb, List, get_or, pos, neg_ℤ, ◌≤ℤ◌, Some, None, Option, refl, arith}
-use Rattle.std.proofs.lemmas.Int.{ints}
 use Rattle.std.proofs.lemmas.Bool.{and_parts}
 use Rattle.words.specs.declared.kind.Kind.{Kind}
 use Rattle.words.specs.declared.kind.Kind.TheVariants.{Low, High}

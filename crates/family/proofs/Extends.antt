@@ -5,11 +5,11 @@ use Rattle.words.specs.declared.refusal.Reason.TheVariants.{RowLength, BadTick, 
 use Rattle.words.specs.declared.refusal.Refusal.{Refusal}
 use Rattle.words.specs.Refusals.{reason_number, refusal_of}
 use Rattle.words.specs.Words.{tick_in_range}
-use Rattle.family.specs.Readings.{Reading, ◌▹◌, last_tick, Above}
+use Rattle.family.specs.Readings.{Reading, ◌▹◌, Above}
 use Rattle.family.specs.Refusing.{first_refusal, refuse_unless, refuse_if, refuse_word, right}
-use Rattle.family.specs.Meaning.{Meaning, TakeAnswer, Fits, refusal}
-use Rattle.family.specs.Laws.{Laws, Ran, ran_none, ran_more}
-use Rattle.family.specs.Runs.{RunFits, PartsFit, Extended}
+use Rattle.family.specs.Meaning.{Meaning, TakeAnswer}
+use Rattle.family.specs.Laws.{Laws, Ran, ran_more}
+use Rattle.family.specs.Runs.{RunFits, Extended}
 use Rattle.family.proofs.Served.{all_front, all_back, serving_allowed, picked_serves, ran_last}
 
 abbrev number_of : Option Refusal → ℕ

@@ -1,5 +1,5 @@
 -- Runs of readings, over any family.
-use Rattle.std.specs.Prelude.{◌≡◌, List, [], ◌∷◌, ◌++◌, Result, MatchResult}
+use Rattle.std.specs.Prelude.{◌≡◌, List, ◌++◌, Result, MatchResult}
 use Rattle.std.specs.List.{AllByRecursion as All}
 use Rattle.words.specs.declared.refusal.Reason.TheVariants.{Unfitting}
 use Rattle.words.specs.declared.refusal.Refusal.{Refusal}

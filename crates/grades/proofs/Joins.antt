@@ -1,12 +1,12 @@
 -- A reading fits a grades state exactly where the two masks share a bit and its tick is new.
-use Rattle.std.proofs.Common.{◌≡◌, ℕ, ◌<◌, Bool, true, false, sym, refl, ap, ◌∙◌, arith}
+use Rattle.std.proofs.Common.{◌≡◌, ℕ, ◌<◌, sym, ap, ◌∙◌, arith}
 use lib.Bits.{bit_and}
 use lib.Count.{count_trailing_zeros}
 use Rattle.family.specs.Readings.{Reading, Above}
 use Rattle.family.specs.Meaning.{Fits}
 use Rattle.grades.specs.declared.grades.Grades.{Grades}
-use Rattle.grades.specs.Bit.{bit, lowest_below}
-use Rattle.grades.specs.GradeMasks.{grades_meaning, Grade, mask_of}
+use Rattle.grades.specs.Bit.{lowest_below}
+use Rattle.grades.specs.GradeMasks.{grades_meaning, mask_of}
 use Rattle.grades.specs.Bitwise.{lowest_set, bit_of_and, bit_some, and_below}
 
 abbrev pub Shares : Grades → Reading → Type 0

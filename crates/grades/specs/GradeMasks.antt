@@ -4,7 +4,6 @@ use Rattle.std.proofs.Common.{arith}
 use Rattle.std.specs.Int.Count.{count_trailing_zeros}
 use Rattle.words.specs.declared.kind.Kind.TheVariants.{Mask, Grade as GradeKind}
 use Rattle.words.specs.Words.{is_a, payload, word_of}
-use Rattle.family.specs.Readings.{Reading}
 use Rattle.family.specs.Meaning.{Meaning}
 use Rattle.family.specs.Bands.{first_wrong}
 use Rattle.grades.specs.declared.grades.Grades.{Grades}

@@ -1,5 +1,5 @@
 -- The grades family keeps the laws.
-use Rattle.std.specs.Prelude.{◌≡◌, ℕ, ◌<◌, ◌≤◌, Bool, true, false, cond, List, [], ◌∷◌, ℤ, pos, ◌+ℤ◌, ◌≤ℤ◌, Some, None, Option, slice_index, refl}
+use Rattle.std.specs.Prelude.{◌≡◌, ℕ, ◌<◌, Bool, true, false, cond, List, [], ◌∷◌, pos, Some, None, Option, slice_index, refl}
 use Rattle.std.proofs.Common.{sym, ap, ◌∙◌, arith}
 use Rattle.std.specs.Int.Count.{count_trailing_zeros}
 use Rattle.std.proofs.lemmas.Int.{ints}
@@ -7,11 +7,10 @@ use Rattle.std.proofs.lemmas.Bool.Decides.{nat_tests}
 use Rattle.words.specs.declared.kind.Kind.TheVariants.{Mask, Grade as GradeKind}
 use Rattle.words.specs.Words.{is_a, payload, word_of}
 use Rattle.words.proofs.RoundTrip.{is_back, payload_back}
-use Rattle.family.specs.Readings.{Reading}
 use Rattle.family.specs.Laws.{Laws, Alike}
 use Rattle.grades.specs.declared.grades.Grades.{Grades}
 use Rattle.grades.specs.Bit.{bit, lowest_below}
-use Rattle.grades.specs.GradeMasks.{grades_meaning, grades_picked, Grade, mask_of, mask_wrong, lowest}
+use Rattle.grades.specs.GradeMasks.{grades_meaning, grades_picked, mask_of, lowest}
 use Rattle.grades.specs.Bitwise.{lowest_set, lowest_least, bit_of_and, bit_full, bit_some}
 
 one_wrong : (a : Bool) (i : ℕ) → ◌≡◌ {A = Option ℕ} (cond a None (Some 0)) (Some i) → i < 1

@@ -1,5 +1,5 @@
 -- The search for a tick, one record on.
-use Rattle.std.proofs.Common.{◌≡◌, ℕ, zero, suc, ◌+◌, ◌-◌, ◌<◌, Bool, true, false, cond, ◌&&◌, List, is_ok, Some, None, Ok, Err, Result, sym, refl, ap, ◌∙◌, arith}
+use Rattle.std.proofs.Common.{◌≡◌, ℕ, zero, suc, ◌+◌, ◌-◌, ◌<◌, Bool, true, false, cond, ◌&&◌, List, is_ok, Ok, Err, Result, sym, refl, ap, ◌∙◌, arith}
 use Rattle.words.specs.declared.refusal.Reason.TheVariants.{Unlawful, WordsLength}
 use Rattle.words.specs.declared.refusal.Refusal.{Refusal}
 use Rattle.words.specs.Refusals.{refusal_at}

@@ -1,6 +1,6 @@
 -- Where the words of a tape stand in a store: the header, the records, and how many records it has room for. `w` is the
 -- width of the tape's picks throughout.
-use Rattle.std.specs.Prelude.{ℕ, ◌+◌, ◌-◌, ◌*◌, ◌/◌, min, Bool, true, false, cond, List, [], ◌∷◌, ◌++◌, length, take, drop, set, pos, nat_lt, slice_index, slice_set}
+use Rattle.std.specs.Prelude.{ℕ, ◌+◌, ◌-◌, ◌*◌, ◌/◌, min, Bool, true, false, cond, List, ◌∷◌, ◌++◌, length, take, drop, pos, nat_lt, slice_index, slice_set}
 use Rattle.words.specs.declared.kind.Kind.TheVariants.{Start, Batch, End, Tape, Count}
 use Rattle.words.specs.Words.{payload, word_of}
 

@@ -1,17 +1,15 @@
 -- The level family keeps the laws.
-use Rattle.std.specs.Prelude.{◌≡◌, List, [], ◌∷◌, get_or, ℤ, pos, negsuc, ◌+ℤ◌, neg_ℤ, ◌≤ℤ◌, Some, None, refl}
-use Rattle.std.proofs.Common.{sym, ap, ◌∙◌, arith}
+use Rattle.std.specs.Prelude.{◌≡◌, [], ◌∷◌, ℤ, pos, ◌+ℤ◌, ◌≤ℤ◌, refl}
+use Rattle.std.proofs.Common.{ap, arith}
 use Rattle.std.specs.Int.{int_div_euclid}
 use Rattle.std.proofs.lemmas.Int.{ints, clamps}
 use Rattle.words.specs.declared.kind.Kind.TheVariants.{Level as LevelKind}
-use Rattle.words.specs.Words.{number_in, word_of, is_a}
+use Rattle.words.specs.Words.{word_of}
 use Rattle.words.proofs.RoundTrip.{number_back, is_back}
-use Rattle.family.specs.Readings.{Reading}
-use Rattle.family.specs.Meaning.{Meaning, form_refusal}
 use Rattle.family.specs.Laws.{Laws, Alike}
-use Rattle.family.specs.Bands.{low_of, high_of}
+use Rattle.family.specs.Bands.{low_of}
 use Rattle.family.proofs.Forms.{formed}
-use Rattle.family.proofs.BandRange.{band_wrong_inside, low_range, high_range}
+use Rattle.family.proofs.BandRange.{band_wrong_inside, low_range}
 use Rattle.level.specs.declared.level.Level.{Level}
 use Rattle.level.specs.Levels.{level_meaning, level_picked, Choice, middle, middle_low, middle_high}
 

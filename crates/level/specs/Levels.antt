@@ -1,11 +1,10 @@
 -- What the level family means: a choice is a level, which serves a band that it lies in.
-use Rattle.std.specs.Prelude.{◌≡◌, ℕ, List, [], ◌∷◌, ℤ, pos, negsuc, ◌+ℤ◌, neg_ℤ, ◌≤ℤ◌, Some, None, int_lt, slice_index}
+use Rattle.std.specs.Prelude.{◌≡◌, [], ◌∷◌, ℤ, pos, negsuc, ◌+ℤ◌, neg_ℤ, ◌≤ℤ◌, Some, None, int_lt, slice_index}
 use Rattle.std.proofs.Common.{arith}
 use Rattle.std.specs.Int.{int_max, int_min, int_div_euclid}
 use Rattle.std.proofs.lemmas.Int.{ints}
 use Rattle.words.specs.declared.kind.Kind.TheVariants.{Level as LevelKind}
 use Rattle.words.specs.Words.{is_a, number_in, word_of}
-use Rattle.family.specs.Readings.{Reading}
 use Rattle.family.specs.Meaning.{Meaning}
 use Rattle.family.specs.Bands.{band_wrong, low_of, high_of, Within}
 use Rattle.level.specs.declared.level.Level.{Level}

@@ -1,13 +1,12 @@
 -- A reading fits a state exactly where it comes later, within 255 ticks of the first, and the bounds of the slope with it meet.
-use Rattle.std.proofs.Common.{◌≡◌, ℕ, zero, suc, ◌+◌, ◌<◌, ◌≤◌, true, List, [], ◌∷◌, ℤ, pos, ◌+ℤ◌, ◌*ℤ◌, neg_ℤ, ◌≤ℤ◌, ◌<ℤ◌, Some, None, Option, sym, refl, ap, ◌∙◌, subst, arith}
+use Rattle.std.proofs.Common.{◌≡◌, ℕ, zero, suc, ◌+◌, ◌<◌, ◌≤◌, true, ◌∷◌, ℤ, pos, ◌+ℤ◌, ◌*ℤ◌, ◌≤ℤ◌, Some, None, Option, sym, refl, subst, arith}
 use mathlib.Core.Bool.{Bool-set}
 use mathlib.Core.Logic.{∥∥₁_elim, ∥∥₁_map}
 use Rattle.std.specs.List.{AllByRecursion as All}
 use Rattle.std.proofs.lemmas.Int.{ints}
 use Rattle.family.specs.Readings.{Reading, Above}
-use Rattle.family.specs.Meaning.{Fits, refusal}
+use Rattle.family.specs.Meaning.{Fits}
 use Rattle.family.specs.Bands.{low_of, high_of}
-use Rattle.hull.specs.declared.point.Point.{Point}
 use Rattle.hull.specs.declared.hull.Hull.{Hull}
 use Rattle.line.specs.declared.line.Line.{Line}
 use Rattle.slope.specs.Slopes.{Slope, meeting, nearest_of}
@@ -15,11 +14,11 @@ use Rattle.hull.specs.Hulls.{ends, steepest_to, pushed, topmost}
 use Rattle.hull.specs.Points.{lift, Near}
 use Rattle.hull.specs.Lines.{Serves, Within}
 use Rattle.line.specs.Sound.{Sound}
-use Rattle.line.specs.Choices.{Choice, line_serves, low_end, high_end}
+use Rattle.line.specs.Choices.{Choice, low_end, high_end}
 use Rattle.line.specs.Picks.{where_none}
-use Rattle.line.specs.LineMeaning.{line_meaning, line_allows, Reaches}
-use Rattle.hull.proofs.Once.{lt_once, serves_once}
-use Rattle.line.specs.Takes.{joint_over, joint_line, bounds_meet, sound_after, no_ends}
+use Rattle.line.specs.LineMeaning.{line_meaning, Reaches}
+use Rattle.hull.proofs.Once.{serves_once}
+use Rattle.line.specs.Takes.{joint_line, bounds_meet, sound_after, no_ends}
 use Rattle.hull.proofs.Ranges.{edge_at}
 use Rattle.line.specs.Choosing.{some_points, no_points}
 use Rattle.line.specs.Serving.{at_both, with_reading, falls_low, falls_high}

@@ -1,5 +1,5 @@
 -- The step that a reading is, as the code makes it.
-use Rattle.std.proofs.Common.{◌≡◌, ℕ, zero, suc, ◌+◌, ◌-◌, ◌*◌, ◌<◌, ◌≤◌, Bool, true, false, ℤ, neg_ℤ, ◌≤ℤ◌, is_some, Some, None, Decides, Option, sym, refl, ap, ◌∙◌, subst, ap₂, arith, w32, SFits, to_z, of_z}
+use Rattle.std.proofs.Common.{◌≡◌, ℕ, zero, suc, ◌+◌, ◌-◌, ◌*◌, ◌<◌, ◌≤◌, true, false, ℤ, ◌≤ℤ◌, is_some, Some, None, Decides, Option, sym, refl, ap, ◌∙◌, subst, ap₂, arith, w32, SFits, to_z, of_z}
 use lib.Signed.{lt_z}
 use Rattle.std.proofs.lemmas.Int.{ints, to_z-of_z}
 use Rattle.std.proofs.lemmas.Bool.Decides.{nat_tests}

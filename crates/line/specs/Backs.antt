@@ -1,5 +1,5 @@
 -- What a state picks serves, is lawful for the run's first and last tick, and reads back.
-use Rattle.std.specs.Prelude.{◌≡◌, ℕ, zero, suc, ◌+◌, ◌<◌, ◌≤◌, Bool, true, false, cond, ◌&&◌, List, [], ◌∷◌, length, ℤ, pos, ◌+ℤ◌, ◌-ℤ◌, ◌*ℤ◌, neg_ℤ, ◌≤ℤ◌, ◌<ℤ◌, int_lt, unsigned_abs, refl}
+use Rattle.std.specs.Prelude.{◌≡◌, ℕ, zero, suc, ◌<◌, true, false, List, [], ℤ, pos, ◌+ℤ◌, ◌*ℤ◌, ◌≤ℤ◌, ◌<ℤ◌, int_lt, unsigned_abs, refl}
 use Rattle.std.proofs.Common.{sym, ap, ap₂, subst, ◌∙◌, arith, eq-eqb}
 use Rattle.std.proofs.Math.Bool.{Bool-set}
 use Rattle.std.proofs.Math.Logic.{∥∥₁_elim}
@@ -15,17 +15,14 @@ use Rattle.hull.specs.declared.point.Point.{Point}
 use Rattle.line.specs.declared.line.Line.{Line}
 use Rattle.line.specs.declared.pick.Pick.{Pick}
 use Rattle.slope.specs.Divisor.{gcd_of}
-use Rattle.slope.specs.Slopes.{Slope, nearest_of, reduced_of, slope_of}
+use Rattle.slope.specs.Slopes.{Slope, reduced_of}
 use Rattle.hull.specs.Hulls.{ends, topmost}
 use Rattle.hull.specs.Points.{lift}
-use Rattle.hull.specs.Picked.{Picked}
-use Rattle.slope.specs.Values.{value_at}
 use Rattle.hull.specs.Lines.{Serves, Slopes}
-use Rattle.line.specs.Sound.{Sound}
-use Rattle.line.specs.Choices.{Choice, line_serves}
+use Rattle.line.specs.Choices.{line_serves}
 use Rattle.line.specs.Picks.{level_pick, lift_of, height_at, pick_lawful, lowest_terms, pivot_placed, in_reach}
 use Rattle.line.specs.LineMeaning.{line_slope, line_pick, line_allows, line_picked}
-use Rattle.slope.proofs.Ring.{ring, lins}
+use Rattle.slope.proofs.Ring.{lins}
 use Rattle.hull.proofs.Once.{le_once, serves_once}
 use Rattle.slope.proofs.Greatest.{gcd_greatest}
 use Rattle.slope.proofs.Floors.{meets_back}

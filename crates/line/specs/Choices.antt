@@ -1,5 +1,5 @@
 -- The choices of the line family, the readings that they serve, and the choices that a state allows.
-use Rattle.std.specs.Prelude.{ℕ, ◌+◌, ◌<◌, ◌≤◌, List, ℤ, pos, ◌+ℤ◌, ◌*ℤ◌, neg_ℤ, ◌≤ℤ◌, ◌<ℤ◌}
+use Rattle.std.specs.Prelude.{ℕ, ◌+◌, ◌<◌, ◌≤◌, ℤ, pos, ◌+ℤ◌, ◌*ℤ◌, neg_ℤ, ◌≤ℤ◌, ◌<ℤ◌}
 use Rattle.family.specs.Readings.{Reading}
 use Rattle.family.specs.Bands.{low_of, high_of}
 use Rattle.hull.specs.declared.point.Point.{Point}

@@ -1,9 +1,8 @@
 -- What a state that has taken a reading picks: the lowest of the allowed lines whose slope is nearest 0, by its first whole
 -- height.
-use Rattle.std.specs.Prelude.{◌≡◌, ℕ, zero, suc, ◌+◌, ◌-◌, ◌/◌, ◌%◌, ◌<◌, ◌≤◌, List, reverse, length, ℤ, pos, ◌+ℤ◌, ◌-ℤ◌, ◌*ℤ◌, ◌≤ℤ◌, ◌<ℤ◌, unsigned_abs, refl}
-use Rattle.std.proofs.Common.{ap, ap₂, sym, ◌∙◌, subst, arith}
+use Rattle.std.specs.Prelude.{◌≡◌, ℕ, zero, suc, ◌+◌, ◌-◌, ◌/◌, ◌%◌, ◌<◌, ◌≤◌, reverse, length, ℤ, pos, ◌-ℤ◌, ◌*ℤ◌, ◌≤ℤ◌, unsigned_abs, refl}
+use Rattle.std.proofs.Common.{ap, sym, ◌∙◌, subst, arith}
 use Rattle.std.proofs.Math.Logic.{∥∥₁_elim}
-use Rattle.std.specs.Int.{◌∣◌}
 use Rattle.std.proofs.Math.Bridge.{le_prop}
 use Rattle.std.proofs.Math.Nat.{ℕ_set}
 use Rattle.std.proofs.Math.IntN.{ℤ_set}
@@ -18,11 +17,9 @@ use Rattle.slope.specs.Slopes.{Slope, nearest_of, Reduced}
 use Rattle.hull.specs.Hulls.{ends, topmost}
 use Rattle.hull.specs.Points.{NotBelow, lift}
 use Rattle.hull.specs.Picked.{Picked}
-use Rattle.slope.specs.Values.{value_at}
-use Rattle.hull.specs.Lines.{Serves}
 use Rattle.line.specs.Sound.{Sound}
 use Rattle.line.specs.Choices.{Choice}
-use Rattle.line.specs.Picks.{where_none, level_pick, pick_through, pick_of, lift_of, height_at}
+use Rattle.line.specs.Picks.{where_none, level_pick, pick_through, lift_of}
 use Rattle.line.specs.LineMeaning.{line_slope, line_pick, line_allows, line_picked, Chosen}
 use Rattle.slope.proofs.Ring.{ring, lins, mul_le}
 use Rattle.slope.proofs.Fractions.{pair_same}

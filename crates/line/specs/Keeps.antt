@@ -1,26 +1,25 @@
 -- The line family keeps the laws.
-use Rattle.std.specs.Prelude.{◌≡◌, ◌+◌, ◌≤◌, true, false, List, [], ◌∷◌, ℤ, pos, negsuc, ◌+ℤ◌, ◌*ℤ◌, neg_ℤ, ◌≤ℤ◌, ◌<ℤ◌, Some, None, ◌≢◌, int_lt, refl}
+use Rattle.std.specs.Prelude.{◌≡◌, ◌+◌, ◌≤◌, true, false, ℤ, pos, ◌+ℤ◌, ◌*ℤ◌, ◌≤ℤ◌, Some, None, ◌≢◌, int_lt, refl}
 use Rattle.std.proofs.Common.{sym, ap, subst, ◌∙◌, arith}
 use Rattle.std.proofs.lemmas.Int.{ints}
-use Rattle.std.proofs.lemmas.Bool.{and_from}
 use Rattle.words.specs.declared.kind.Kind.TheVariants.{Level as LevelKind}
-use Rattle.words.specs.Words.{number_in, word_of, is_a}
+use Rattle.words.specs.Words.{number_in, word_of}
 use Rattle.words.proofs.RoundTrip.{number_back}
 use Rattle.family.specs.Readings.{Reading}
-use Rattle.family.specs.Meaning.{Meaning, form_refusal}
-use Rattle.family.specs.Laws.{Laws, Alike}
+use Rattle.family.specs.Meaning.{form_refusal}
+use Rattle.family.specs.Laws.{Laws}
 use Rattle.family.specs.Bands.{low_of, high_of, Within}
 use Rattle.family.proofs.Forms.{formed}
 use Rattle.family.proofs.BandRange.{band_wrong_inside, low_range, high_range}
 use Rattle.line.specs.declared.line.Line.{Line}
 use Rattle.line.specs.declared.pick.Pick.{Pick}
-use Rattle.line.specs.Choices.{Choice, line_serves, raised}
+use Rattle.line.specs.Choices.{Choice, line_serves}
 use Rattle.line.specs.Picks.{height_at, pick_in, pick_words}
-use Rattle.line.specs.LineMeaning.{line_meaning, line_picked, line_pick, Bare}
+use Rattle.line.specs.LineMeaning.{line_meaning, line_picked, line_pick}
 use Rattle.slope.proofs.Ring.{ring, lins, le_of_mul}
 use Rattle.line.specs.Choosing.{no_points, some_points}
 use Rattle.line.specs.Ranges.{pick_held}
-use Rattle.line.specs.Written.{read_again, kinds_again}
+use Rattle.line.specs.Written.{read_again}
 use Rattle.line.specs.Serving.{allows_keeps, allows_from, allows_serves, took_some}
 use Rattle.line.specs.Ran.{lawful_after}
 use Rattle.line.specs.Same.{same_pick}

@@ -1,5 +1,5 @@
 -- What the line family means.
-use Rattle.std.specs.Prelude.{◌≡◌, ℕ, ◌+◌, ◌<◌, ◌≤◌, List, [], ℤ, pos, negsuc, ◌+ℤ◌, ◌*ℤ◌, ◌≤ℤ◌, ◌<ℤ◌, Some, None, Option, int_lt, slice_index, unsigned_abs}
+use Rattle.std.specs.Prelude.{◌≡◌, ℕ, ◌+◌, ◌<◌, ◌≤◌, ℤ, pos, negsuc, ◌+ℤ◌, ◌*ℤ◌, ◌≤ℤ◌, ◌<ℤ◌, Some, None, int_lt, slice_index, unsigned_abs}
 use Rattle.words.specs.declared.kind.Kind.TheVariants.{Level as LevelKind}
 use Rattle.words.specs.Words.{number_in}
 use Rattle.family.specs.Readings.{Reading}
@@ -10,7 +10,7 @@ use Rattle.line.specs.declared.pick.Pick.{Pick}
 use Rattle.slope.specs.Slopes.{Slope, Coprime, slope_of}
 use Rattle.hull.specs.Hulls.{ends, pushed, steepest_to, topmost}
 use Rattle.hull.specs.Points.{lift}
-use Rattle.line.specs.Choices.{Choice, line_serves, raised, low_end, high_end, Allows}
+use Rattle.line.specs.Choices.{Choice, line_serves, low_end, high_end, Allows}
 use Rattle.line.specs.Picks.{where_none, pick_of, lift_of, pick_words, words_lawful, value_words}
 
 -- no bound yet: what is below every slope

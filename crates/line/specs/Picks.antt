@@ -1,6 +1,6 @@
 -- The words of a pick: PIVOT, HEIGHT, RISE, OVER. They say a line by a tick at which its height is whole, that height, and
 -- its slope in lowest terms.
-use Rattle.std.specs.Prelude.{ℕ, zero, suc, ◌+◌, ◌-◌, ◌/◌, ◌%◌, ◌≤◌, Bool, ◌&&◌, List, [], ◌∷◌, ℤ, pos, ◌-ℤ◌, ◌*ℤ◌, ◌==◌, nat_le, nat_lt, slice_index, unsigned_abs}
+use Rattle.std.specs.Prelude.{ℕ, zero, suc, ◌+◌, ◌-◌, ◌/◌, ◌%◌, Bool, ◌&&◌, List, [], ◌∷◌, ℤ, pos, ◌-ℤ◌, ◌*ℤ◌, ◌==◌, nat_le, nat_lt, slice_index, unsigned_abs}
 use Rattle.words.specs.declared.kind.Kind.TheVariants.{Level, Pivot, Height, Rise, Over}
 use Rattle.words.specs.Kinds.{in_range}
 use Rattle.words.specs.Words.{is_a, number_in, word_of, payload}

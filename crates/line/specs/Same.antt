@@ -1,26 +1,24 @@
 -- States that allow the same choices pick the same line: its slope, its height and its pivot are told by what is allowed.
-use Rattle.std.specs.Prelude.{◌≡◌, ℕ, zero, suc, ◌+◌, ◌*◌, ◌<◌, ◌≤◌, ◌⊎◌, List, ℤ, pos, negsuc, ◌+ℤ◌, ◌-ℤ◌, ◌*ℤ◌, neg_ℤ, ◌≤ℤ◌, ◌<ℤ◌, Some, None, Option, unsigned_abs, refl}
+use Rattle.std.specs.Prelude.{◌≡◌, ℕ, zero, suc, ◌*◌, ◌<◌, ◌⊎◌, List, ℤ, pos, negsuc, ◌+ℤ◌, ◌*ℤ◌, neg_ℤ, ◌≤ℤ◌, Some, None, Option, unsigned_abs, refl}
 use Rattle.std.proofs.Common.{sym, ap, ap₂, subst, ◌∙◌, arith, inl, inr, ⊎_elim}
 use Rattle.std.specs.Int.{◌∣◌}
 use Rattle.std.proofs.Math.Nat.{dvd_antisymm, dvd-mul_right}
 use Rattle.std.proofs.Math.Nat as N
-use Rattle.std.specs.List.{AllByRecursion as All}
-use Rattle.std.proofs.lemmas.Int.{ints, by_lt_z}
+use Rattle.std.proofs.lemmas.Int.{ints}
 use Rattle.family.specs.Laws.{Alike}
 use Rattle.hull.specs.declared.point.Point.{Point}
 use Rattle.line.specs.declared.line.Line.{Line}
 use Rattle.line.specs.declared.pick.Pick.{Pick}
 use Rattle.hull.specs.Points.{NotBelow}
 use Rattle.hull.specs.Hulls.{ends}
-use Rattle.slope.specs.Slopes.{Coprime}
 use Rattle.hull.specs.Lines.{Serves}
 use Rattle.line.specs.Choices.{Choice}
 use Rattle.line.specs.Picks.{where_none, level_pick, lift_of}
 use Rattle.line.specs.LineMeaning.{line_meaning, line_allows, line_pick, line_of, Chosen}
-use Rattle.slope.proofs.Ring.{ring, lins, mul_le, le_of_mul}
+use Rattle.slope.proofs.Ring.{ring, lins, le_of_mul}
 use Rattle.slope.proofs.Euclid.{divides}
 use Rattle.hull.proofs.Ranges.{all_both}
-use Rattle.line.specs.Choosing.{anchored, no_points, some_points, chosen}
+use Rattle.line.specs.Choosing.{anchored, no_points, chosen}
 use Rattle.line.specs.Ranges.{pick_same}
 
 -- two equal fractions in lowest terms have the same over, and the same rise

@@ -1,20 +1,17 @@
 -- Lines and readings: a choice serves a reading where its line is not below the band's low end nor above its high end, and
 -- what a state allows with a reading taken.
-use Rattle.std.specs.Prelude.{◌≡◌, ℕ, zero, suc, ◌+◌, ◌<◌, ◌≤◌, true, List, [], ◌∷◌, ◌++◌, reverse, length, ℤ, pos, ◌+ℤ◌, ◌*ℤ◌, neg_ℤ, ◌≤ℤ◌, ◌<ℤ◌, ◌≢◌, refl}
+use Rattle.std.specs.Prelude.{◌≡◌, ℕ, zero, suc, ◌+◌, ◌<◌, ◌≤◌, List, [], ◌∷◌, ◌++◌, reverse, length, ℤ, pos, ◌+ℤ◌, ◌*ℤ◌, neg_ℤ, ◌≤ℤ◌, ◌≢◌, refl}
 use Rattle.std.proofs.Common.{sym, subst, ap, ◌∙◌, arith}
-use Rattle.std.proofs.Math.Logic.{∥∥₁_elim, ∥∥₁_map}
-use Rattle.std.proofs.lemmas.Int.{ints}
+use Rattle.std.proofs.Math.Logic.{∥∥₁_elim}
 use Rattle.family.specs.Readings.{Reading}
-use Rattle.family.specs.Bands.{low_of, high_of}
+use Rattle.family.specs.Bands.{high_of}
 use Rattle.hull.specs.declared.point.Point.{Point}
-use Rattle.hull.specs.declared.hull.Hull.{Hull}
 use Rattle.line.specs.declared.line.Line.{Line}
 use Rattle.hull.specs.Hulls.{ends, Falling, popped, pushed}
 use Rattle.hull.specs.Points.{NotBelow}
 use Rattle.hull.specs.Lines.{Serves}
 use Rattle.line.specs.Sound.{Sound}
 use Rattle.line.specs.Choices.{Choice, line_serves, low_end, high_end}
-use Rattle.line.specs.Picks.{where_none}
 use Rattle.line.specs.LineMeaning.{line_allows, Took}
 use Rattle.slope.proofs.Ring.{ring, lins}
 use Rattle.hull.proofs.Once.{serves_once}

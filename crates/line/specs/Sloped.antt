@@ -1,5 +1,5 @@
 -- The slope that a sound state picks: in lowest terms, its over above 0, and small.
-use Rattle.std.specs.Prelude.{◌≡◌, ℕ, ℤ, pos, ◌<ℤ◌, unsigned_abs}
+use Rattle.std.specs.Prelude.{ℕ, pos, ◌<ℤ◌, unsigned_abs}
 use Rattle.std.proofs.Math.Logic.{∥∥₁_elim}
 use Rattle.std.proofs.Common.{arith}
 use Rattle.hull.specs.declared.hull.Hull.{Hull}

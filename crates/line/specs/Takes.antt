@@ -1,5 +1,5 @@
 -- A reading taken into a state: which lines serve it too, and that the state is sound then.
-use Rattle.std.specs.Prelude.{◌≡◌, ℕ, zero, suc, ◌+◌, ◌<◌, ◌≤◌, true, List, [], ◌∷◌, reverse, length, take, ℤ, pos, negsuc, ◌+ℤ◌, ◌*ℤ◌, neg_ℤ, ◌≤ℤ◌, ◌<ℤ◌, refl}
+use Rattle.std.specs.Prelude.{◌≡◌, ℕ, ◌+◌, ◌<◌, ◌≤◌, true, List, [], ◌∷◌, reverse, take, ℤ, pos, ◌+ℤ◌, ◌*ℤ◌, ◌≤ℤ◌, ◌<ℤ◌, refl}
 use Rattle.std.proofs.Common.{ap, ap₂, sym, ◌∙◌, subst, inr, arith}
 use Rattle.std.specs.List.{AllByRecursion as All}
 use Rattle.std.proofs.ByRecursion.{All-weaker}
@@ -18,7 +18,7 @@ use Rattle.hull.proofs.Fits.{bounds_more, fits_no}
 use Rattle.slope.proofs.NearZero.{nearest_is}
 use Rattle.hull.proofs.Anchors.{anchor_serves}
 use Rattle.hull.proofs.Ranges.{all_both, reach_small, edge_at}
-use Rattle.hull.proofs.Pushes.{all_unreverse, falling_all, falling_next, push_in, served, kept, bounds_pushed}
+use Rattle.hull.proofs.Pushes.{all_unreverse, falling_all, falling_next, push_in, served, bounds_pushed}
 
 -- low ends and high ends, turned over, with bounds of the slope that they leave, and a reading from a to b behind them
 module _ (lows highs : Hull) (least fall : Slope) (a b : Point) (bounds : Bounds (ends lows) (ends highs) least fall)

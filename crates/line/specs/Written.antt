@@ -1,13 +1,12 @@
 -- The four words of a pick: written, and read again.
-use Rattle.std.specs.Prelude.{◌≡◌, ℕ, zero, suc, ◌+◌, ◌<◌, ◌≤◌, Bool, true, false, ◌&&◌, List, [], ◌∷◌, length, ℤ, pos, neg_ℤ, ◌≤ℤ◌, IfSome, Some, None, Option, slice_index, slice_set, refl}
-use Rattle.std.proofs.Common.{sym, ap, ap₂, subst, ◌∙◌, arith, to_z}
+use Rattle.std.specs.Prelude.{◌≡◌, ℕ, ◌<◌, ◌≤◌, Bool, true, ◌&&◌, List, [], ◌∷◌, length, pos, neg_ℤ, IfSome, Some, Option, slice_index, slice_set, refl}
+use Rattle.std.proofs.Common.{ap, subst, ◌∙◌, arith, to_z}
 use Rattle.std.specs.Int.{w32}
 use Rattle.std.proofs.lemmas.Int.{ints}
 use Rattle.std.proofs.lemmas.Bool.{and_parts, and_from}
-use Rattle.std.proofs.lemmas.Bool.Decides.{nat_tests}
 use Rattle.words.specs.declared.kind.Kind.TheVariants.{Level, Pivot, Height, Rise, Over}
 use Rattle.words.specs.Kinds.{in_range}
-use Rattle.words.specs.Words.{is_a, number_in, word_of, payload}
+use Rattle.words.specs.Words.{is_a, word_of, payload}
 use Rattle.words.proofs.RoundTrip.{range_low, range_high, range_test, is_back, number_back}
 use Rattle.family.proofs.BandRange.{number_range}
 use Rattle.line.specs.declared.pick.Pick.{Pick}

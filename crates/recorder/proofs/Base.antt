@@ -1,19 +1,18 @@
 -- What the store and the log keep from dealing to dealing.
-use Rattle.std.proofs.Common.{◌≡◌, ℕ, zero, suc, ◌+◌, ◌-◌, ◌*◌, ◌/◌, ◌%◌, ◌<◌, ◌≤◌, min, Bool, true, false, cond, ◌&&◌, ◌||◌, eqb, ltb, leb, ◌⊎◌, List, [], ◌∷◌, ◌++◌, map, length, get_or, take, drop, set, Some, None, Ok, Err, Option, Result, sym, refl, ap, ◌∙◌, subst, inl, inr, append_assoc, le_trans, mul-le-mul_right, add-mul, zero-mul, div-mul-le_self, arith, length-append, ltb-false, ltb-true, le-ltb, lt-ltb, eq-eqb, le-leb, leb-true}
+use Rattle.std.proofs.Common.{◌≡◌, ℕ, ◌+◌, ◌-◌, ◌*◌, ◌/◌, ◌<◌, ◌≤◌, min, Bool, true, false, cond, ltb, leb, ◌⊎◌, List, [], ◌∷◌, ◌++◌, length, take, drop, Some, None, Option, sym, refl, ap, ◌∙◌, subst, inl, inr, le_trans, mul-le-mul_right, add-mul, zero-mul, div-mul-le_self, arith, length-append, ltb-false, le-ltb, lt-ltb, le-leb, leb-true}
 use borrow.Author.Tests.{lt-leb}
 use Rattle.std.specs.List.{AllByRecursion as All}
 use Rattle.std.proofs.lemmas.List.{append-nil, length-set, length-take-le, length-drop}
-use Rattle.std.proofs.ByRecursion.{All-weaker, All-append, All-push}
-use Rattle.std.proofs.lemmas.Bool.{cond-true, cond-false, cases_lt}
+use Rattle.std.proofs.ByRecursion.{All-weaker, All-push}
+use Rattle.std.proofs.lemmas.Bool.{cases_lt}
 use Rattle.words.specs.declared.refusal.Reason.TheVariants.{BadTick}
 use Rattle.words.specs.declared.refusal.Refusal.{Refusal}
-use Rattle.words.specs.Words.{tick_in_range}
 use Rattle.family.specs.Readings.{Reading, ◌▹◌, last_tick}
 use Rattle.family.specs.Refusing.{first_refusal, refuse_if, refuse_unless}
 use Rattle.family.specs.Meaning.{Meaning, Fits, refusal, form_refusal}
-use Rattle.family.specs.Laws.{Laws, Ran, ran_none, ran_more}
+use Rattle.family.specs.Laws.{Laws, ran_none, ran_more}
 use Rattle.family.proofs.Forms.{refusal_parts, formed}
-use Rattle.cuttings.specs.Cutting.{joined, Event, read, mark, readings}
+use Rattle.cuttings.specs.Cutting.{Event, read, mark, readings}
 use Rattle.cuttings.proofs.Spans.{Rising}
 use Rattle.cuttings.proofs.Permits.{readings_read, readings_mark}
 use Rattle.layout.specs.Layout.{places_of, place_at, record_of, with_record, overwrite, tape_word, count_word}
@@ -22,8 +21,8 @@ use Rattle.recorder.specs.declared.tape.Phase.TheVariants.{Fresh, Waiting, Runni
 use Rattle.recorder.specs.Steps.{late_refusal}
 use Rattle.recorder.specs.Law.{not_above}
 use Rattle.recorder.proofs.Writes.{record_end, room_for}
-use Rattle.recorder.proofs.Ticks.{run_first, run_last, Spanned, all_both, rising_push, last_push, first_push, accepted_push}
-use Rattle.recorder.proofs.Records.{Rec, rec_words, flat, flat_append, shape, write_shape, Took, Held, Holds, holds_push}
+use Rattle.recorder.proofs.Ticks.{rising_push, last_push, first_push}
+use Rattle.recorder.proofs.Records.{Rec, rec_words, flat, flat_append, shape, write_shape, Took, Holds, holds_push}
 
 -- the places lie within the store
 fit_within : (w n : ℕ) (b c : Bool) → cond b 0 (cond c 0 (min ((n - 2) / (w + 2)) 1000000)) * (w + 2) ≤ n - 2

@@ -1,19 +1,17 @@
 -- What holds of log and world after each dealing.
-use Rattle.std.proofs.Common.{◌≡◌, ℕ, zero, suc, ◌+◌, ◌-◌, ◌*◌, ◌<◌, ◌≤◌, min, Bool, true, false, cond, ◌&&◌, eqb, ltb, leb, ◌⊎◌, ◌↔◌, List, [], ◌∷◌, ◌++◌, length, drop, set, Some, None, Ok, Err, Decides, Option, Result, sym, refl, ap, ◌∙◌, subst, inl, inr, append_assoc, zero-mul, arith, length-append, ltb-false, ltb-true, le-ltb, lt-ltb, eq-eqb}
-use Rattle.std.specs.List.{AllByRecursion as All}
-use Rattle.std.proofs.lemmas.List.{length-set}
+use Rattle.std.proofs.Common.{◌≡◌, ℕ, suc, ◌+◌, ◌<◌, ◌≤◌, Bool, true, false, cond, ltb, List, [], ◌∷◌, length, set, Some, None, Ok, Err, Decides, Option, Result, sym, refl, ap, ◌∙◌, subst, zero-mul, arith, ltb-false, ltb-true, eq-eqb}
 use Rattle.std.proofs.ByRecursion.{All-push}
-use Rattle.std.proofs.lemmas.Bool.{cond-true, cond-false, and_from, false≢true}
+use Rattle.std.proofs.lemmas.Bool.{and_from, false≢true}
 use Rattle.words.specs.declared.refusal.Reason.TheVariants.{BadTick, NothingToMark, OtherStore, NoPlace}
 use Rattle.words.specs.declared.refusal.Refusal.{Refusal}
 use Rattle.words.specs.Refusals.{refusal_of}
 use Rattle.family.specs.Readings.{Reading, ◌▹◌, last_tick, Above}
 use Rattle.family.specs.Refusing.{first_refusal, refuse_if, refuse_unless}
 use Rattle.family.specs.Meaning.{Meaning, Fits, refusal, form_refusal}
-use Rattle.family.specs.Laws.{Laws, Ran}
+use Rattle.family.specs.Laws.{Laws}
 use Rattle.family.proofs.Forms.{refusal_parts}
 use Rattle.family.proofs.Served.{allowed_serves, serving_allowed, ran_last}
-use Rattle.cuttings.specs.Cutting.{joined, Event, read, mark, readings, Served, Parted, Permitted, TapeRuns, opened, marked, first, after_mark, joins, begins}
+use Rattle.cuttings.specs.Cutting.{Event, read, mark, readings, Parted, TapeRuns, marked, first, after_mark, joins, begins}
 use Rattle.cuttings.proofs.Ends.{all_init, all_last}
 use Rattle.cuttings.proofs.Permits.{readings_read, readings_mark, part_served}
 use Rattle.cuttings.proofs.Fewest.{length_push, tape_needs}
@@ -22,14 +20,14 @@ use Rattle.recorder.specs.declared.tape.Phase.{Phase}
 use Rattle.recorder.specs.declared.tape.Phase.TheVariants.{Fresh, Waiting, Running}
 use Rattle.recorder.specs.declared.step.Event.TheVariants.{Mark}
 use Rattle.recorder.specs.Phases.{running}
-use Rattle.recorder.specs.Steps.{View, Outcome, refused, longer, begun, cut, ended, idle, outcome, outcome_of, opened_refusal, late_refusal, unless_due, answer_by, view_by, store_by, StateBy, opened_view}
-use Rattle.recorder.specs.Recording.{event_of, early_refusal, Began, By, Seen, RecordedBy, Kept, count_by}
-use Rattle.recorder.specs.Histories.{World, noted, parted, Opened, Recorded, Marked, Asked, Closed, Dealt, opened as tape-opened, recorded, marked as tape-marked, asked_at}
+use Rattle.recorder.specs.Steps.{View, Outcome, refused, begun, cut, outcome, outcome_of, opened_refusal, late_refusal, unless_due, answer_by, view_by, store_by, StateBy, opened_view}
+use Rattle.recorder.specs.Recording.{event_of, early_refusal, Began, By, RecordedBy}
+use Rattle.recorder.specs.Histories.{World, noted, parted, Opened, Marked, Dealt, opened as tape-opened, recorded, marked as tape-marked, asked_at}
 use Rattle.recorder.specs.Law.{Fit, not_above, batch_open, reading_refusal, HasNoPlace, RecordAnswer, MarkAnswer}
 use Rattle.recorder.proofs.Readies.{fresh_fits}
-use Rattle.recorder.proofs.Ticks.{run_last, last_is_run_last, Spanned, accepted_push}
-use Rattle.recorder.proofs.Records.{Rec, flat, shape, Took, Held, Holds}
-use Rattle.recorder.proofs.Base.{clock_of, late_is, passed, Past, is_past, tick_fits, took_more, took_one, Base, base_read, base_mark, base_write, written_rec}
+use Rattle.recorder.proofs.Ticks.{run_last, last_is_run_last, accepted_push}
+use Rattle.recorder.proofs.Records.{Rec, shape, Took, Holds}
+use Rattle.recorder.proofs.Base.{clock_of, late_is, passed, Past, is_past, took_more, took_one, Base, base_read, base_mark, base_write, written_rec}
 
 abbrev pub five : ℕ → ℕ → ℕ → ℕ → Phase → View
 five wd len pl n q = record { width = wd; length = len; places = pl; written = n; phase = q }

@@ -1,5 +1,5 @@
 -- What the calls keep of an open tape, so that closing it over the same store is not refused.
-use Rattle.std.proofs.Common.{◌≡◌, ℕ, Bool, true, List, length, is_ok, Some, None, Ok, Err, Option, Result, sym, refl, ap, ◌∙◌, subst, eq-eqb}
+use Rattle.std.proofs.Common.{◌≡◌, ℕ, Bool, true, List, length, is_ok, Some, None, Ok, Err, Option, Result, sym, refl, ap, subst, eq-eqb}
 use Rattle.std.proofs.lemmas.Bool.{and_from}
 use Rattle.words.specs.declared.refusal.Reason.TheVariants.{OtherStore}
 use Rattle.words.specs.declared.refusal.Refusal.{Refusal}

@@ -1,13 +1,13 @@
 -- A store that the recorder wrote is a lawful tape, and the reader finds a value for each reading in it.
-use Rattle.std.proofs.Common.{◌≡◌, ℕ, zero, suc, ◌+◌, ◌-◌, ◌*◌, ◌/◌, ◌%◌, ◌<◌, ◌≤◌, min, Bool, true, false, cond, ◌&&◌, eqb, ltb, leb, ◌⊎◌, List, [], ◌∷◌, ◌++◌, map, length, get_or, drop, pos, Some, None, Ok, Err, Option, Result, sym, refl, ap, ◌∙◌, subst, inl, inr, append_assoc, mul-le-mul_right, one-mul, zero-mul, arith, lt-ltb, eq-eqb, le-leb}
+use Rattle.std.proofs.Common.{◌≡◌, ℕ, ◌+◌, ◌-◌, ◌*◌, ◌<◌, ◌≤◌, Bool, true, List, [], ◌∷◌, ◌++◌, map, length, get_or, drop, None, Ok, Err, Option, Result, sym, refl, ap, ◌∙◌, subst, mul-le-mul_right, one-mul, zero-mul, arith, lt-ltb, eq-eqb, le-leb}
 use Rattle.std.specs.List.{AllByRecursion as All}
 use Rattle.std.proofs.ByRecursion.{All-weaker}
-use Rattle.std.proofs.lemmas.Bool.{cond-true, cond-false, and_from, and_parts}
+use Rattle.std.proofs.lemmas.Bool.{cond-true, and_from}
 use Rattle.words.specs.declared.kind.Kind.TheVariants.{Count}
 use Rattle.words.specs.declared.refusal.Reason.TheVariants.{BadTick, WordsLength}
 use Rattle.words.specs.declared.refusal.Refusal.{Refusal}
 use Rattle.words.specs.Kinds.{kind_number}
-use Rattle.words.specs.Words.{top_bits, payload, of_kind, tick_in_range}
+use Rattle.words.specs.Words.{top_bits, payload}
 use Rattle.family.specs.Readings.{Reading}
 use Rattle.family.specs.Refusing.{first_refusal, refuse_unless, right, tick_refusal}
 use Rattle.family.specs.Meaning.{Meaning}
@@ -20,8 +20,7 @@ use Rattle.layout.specs.Records.{find}
 use Rattle.reader.specs.Tapes.{told_count, tape_fault, records_fault, refuse_tape}
 use Rattle.reader.specs.Reads.{AnswersRow, unless_refused, row_tick_refusal, value_of, value_read, ValueRead}
 use Rattle.recorder.specs.Law.{written_spans, Answers}
-use Rattle.recorder.proofs.Ticks.{all_both}
-use Rattle.recorder.proofs.Records.{Rec, rec_words, flat, shape, skip_one, rec_span, Held, Holds, Found-for, find-all, spans-there, Starts, records-ok}
+use Rattle.recorder.proofs.Records.{Rec, flat, skip_one, rec_span, Holds, find-all, spans-there, records-ok}
 use Rattle.recorder.proofs.Base.{places_within, places_few, places_thin, Base}
 use Rattle.recorder.proofs.Invariant.{Batched}
 

@@ -1,6 +1,6 @@
 -- What recording leaves, from what its calls ensure: before the taking the state is ready for the reading.
-use Rattle.std.proofs.Common.{◌≡◌, ℕ, ◌+◌, Bool, true, false, cond, ltb, Some, None, Ok, Err, Decides, Option, Result, sym, refl, ap, ◌∙◌, subst, arith}
-use Rattle.words.specs.declared.refusal.Reason.TheVariants.{NoPlace, Unfitting}
+use Rattle.std.proofs.Common.{◌≡◌, ℕ, ◌+◌, Bool, true, false, cond, ltb, None, Ok, Err, Decides, Option, Result, sym, refl, ap, subst, arith}
+use Rattle.words.specs.declared.refusal.Reason.TheVariants.{NoPlace}
 use Rattle.words.specs.declared.refusal.Refusal.{Refusal}
 use Rattle.words.specs.Refusals.{refusal_of}
 use Rattle.family.specs.Readings.{Reading, Above}
@@ -10,8 +10,8 @@ use Rattle.family.specs.Laws.{Laws}
 use Rattle.family.proofs.Forms.{refusal_parts}
 use Rattle.recorder.specs.declared.tape.Phase.{Phase}
 use Rattle.recorder.specs.declared.tape.Phase.TheVariants.{Fresh, Waiting, Running}
-use Rattle.recorder.specs.Steps.{View, Outcome, refused, longer, begun, cut, ended, idle, outcome, answer_by, view_by, StateBy}
-use Rattle.recorder.specs.Recording.{event_of, early_refusal, Began, Kept, count_by}
+use Rattle.recorder.specs.Steps.{View, Outcome, refused, longer, begun, cut, outcome, answer_by, view_by, StateBy}
+use Rattle.recorder.specs.Recording.{event_of, Kept, count_by}
 
 abbrev Answer : Type 0
 Answer = Result Unit Refusal

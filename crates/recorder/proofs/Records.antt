@@ -1,19 +1,16 @@
 -- The records in a store, and the runs that they hold.
-use Rattle.std.proofs.Common.{◌≡◌, ℕ, zero, suc, ◌+◌, ◌-◌, ◌*◌, ◌/◌, ◌%◌, ◌<◌, ◌≤◌, Bool, true, false, cond, ◌&&◌, ◌||◌, eqb, ltb, leb, List, [], ◌∷◌, ◌++◌, map, length, get_or, take, drop, set, pos, Some, None, Ok, Err, Option, Result, sym, refl, ap, ◌∙◌, subst, append_assoc, add-mul, arith, length-append, le-ltb, lt-ltb, eq-eqb, le-leb}
+use Rattle.std.proofs.Common.{◌≡◌, ℕ, suc, ◌+◌, ◌-◌, ◌*◌, ◌<◌, ◌≤◌, Bool, true, false, cond, ◌&&◌, ◌||◌, leb, List, [], ◌∷◌, ◌++◌, map, length, get_or, take, drop, set, pos, Some, None, Ok, Option, sym, refl, ap, ◌∙◌, subst, append_assoc, add-mul, arith, lt-ltb, eq-eqb, le-leb}
 use borrow.Author.Tests.{lt-leb}
 use Rattle.std.specs.List.{AllByRecursion as All}
 use Rattle.std.proofs.lemmas.List.{append-nil, take_at, drop_at, drop-drop}
 use Rattle.std.proofs.ByRecursion.{All-weaker, All-append, All-push}
 use Rattle.std.proofs.lemmas.Bool.{and_from, and_left, and_right, cond-true, cond-false, or_left, or_right, false≢true}
 use Rattle.words.specs.declared.kind.Kind.TheVariants.{Start, Batch, End}
-use Rattle.words.specs.declared.refusal.Reason.TheVariants.{Unlawful}
-use Rattle.words.specs.declared.refusal.Refusal.{Refusal}
-use Rattle.words.specs.Refusals.{refusal_at}
 use Rattle.words.specs.declared.kind.Kind.{Kind}
 use Rattle.words.specs.Kinds.{kind_number}
 use Rattle.words.specs.Words.{top_bits, payload, of_kind, word_of}
-use Rattle.family.specs.Readings.{Reading, ◌▹◌, last_tick}
-use Rattle.family.specs.Refusing.{right, spans}
+use Rattle.family.specs.Readings.{Reading, ◌▹◌}
+use Rattle.family.specs.Refusing.{spans}
 use Rattle.family.specs.Meaning.{Meaning, form_refusal}
 use Rattle.family.specs.Laws.{Laws, Ran, ran_none, ran_more}
 use Rattle.family.proofs.Forms.{refusal_parts}
@@ -21,7 +18,7 @@ use Rattle.family.proofs.Served.{picked_serves}
 use Rattle.cuttings.specs.Cutting.{joined}
 use Rattle.cuttings.proofs.Spans.{Rising}
 use Rattle.layout.specs.Layout.{record_of, first_word, place_at, with_record, count_word, record_at, first_in, last_in, pick_in}
-use Rattle.layout.specs.Records.{framed, record_lawful, record_spans, find}
+use Rattle.layout.specs.Records.{record_lawful, record_spans, find}
 use Rattle.layout.proofs.Finds.{find_record}
 use Rattle.reader.specs.Tapes.{follows, records_fault}
 use Rattle.recorder.specs.Law.{Span, span, written_spans}

@@ -1,5 +1,5 @@
 -- The law over all dealings.
-use Rattle.std.proofs.Common.{◌≡◌, ℕ, zero, suc, ◌+◌, ◌-◌, ◌*◌, ◌<◌, ◌≤◌, min, Bool, true, false, cond, ◌&&◌, eqb, ltb, leb, ◌⊎◌, ◌↔◌, List, [], ◌∷◌, ◌++◌, map, length, get_or, drop, set, Some, None, Ok, Err, filter, Option, Result, sym, refl, ap, ◌∙◌, subst, inl, inr, append_assoc, arith, length-append, le-ltb, lt-ltb, eq-eqb, le-leb, leb-true}
+use Rattle.std.proofs.Common.{◌≡◌, ℕ, suc, ◌+◌, ◌<◌, ◌≤◌, Bool, true, false, cond, leb, ◌⊎◌, List, [], ◌∷◌, ◌++◌, map, length, drop, Ok, Err, filter, Option, Result, sym, refl, ap, ◌∙◌, subst, inl, inr, append_assoc, arith, length-append, le-leb, leb-true}
 use borrow.Author.Tests.{lt-leb}
 use Rattle.std.specs.List.{AllByRecursion as All}
 use Rattle.std.proofs.lemmas.List.{append-nil, map-append, length-map}
@@ -17,23 +17,23 @@ use Rattle.cuttings.specs.Cutting.{joined, Event, read, mark, readings, Permitte
 use Rattle.cuttings.proofs.Spans.{Rising}
 use Rattle.cuttings.proofs.Ends.{joined_push, all_left, all_right}
 use Rattle.cuttings.proofs.Permits.{part_served}
-use Rattle.cuttings.proofs.Fewest.{length_push, tape_permitted, tape_fewest}
+use Rattle.cuttings.proofs.Fewest.{tape_permitted, tape_fewest}
 use Rattle.layout.specs.Layout.{places_of, place_at, with_record, record_at, pick_in}
 use Rattle.layout.specs.Records.{find}
-use Rattle.reader.specs.Tapes.{told_count, tape_fault, LawfulTape}
+use Rattle.reader.specs.Tapes.{told_count, LawfulTape}
 use Rattle.reader.proofs.Lawful.{none_lawful}
-use Rattle.reader.specs.Reads.{AnswersRow, unless_refused, row_tick_refusal, value_of, ValueRead}
+use Rattle.reader.specs.Reads.{AnswersRow, unless_refused, row_tick_refusal, value_of}
 use Rattle.recorder.specs.declared.tape.Phase.{Phase}
 use Rattle.recorder.specs.declared.tape.Phase.TheVariants.{Fresh, Waiting, Running}
 use Rattle.recorder.specs.declared.tape.OpenTape.{OpenTape}
 use Rattle.recorder.specs.declared.tape.ClosedTape.{ClosedTape}
 use Rattle.recorder.specs.Phases.{running}
-use Rattle.recorder.specs.Steps.{View, Outcome, refused, longer, begun, cut, ended, idle, opened_refusal, store_by, closing as closing-by, Closes}
-use Rattle.recorder.specs.Asking.{asked, by_phase, run_value, records_value}
+use Rattle.recorder.specs.Steps.{View, Outcome, store_by, closing as closing-by, Closes}
+use Rattle.recorder.specs.Asking.{asked, by_phase, records_value}
 use Rattle.recorder.specs.Histories.{World, noted, parted, Opened, Recorded, Marked, Asked, Closed, Dealt, opened as tape-opened, recorded, marked as tape-marked}
 use Rattle.recorder.specs.Law.{Span, span, written_spans, open_span, segments, inside, runs_in, Unspanned, Fit, reading_refusal, RecordAnswer, AskAnswer, Answers, LawAt, Law}
-use Rattle.recorder.proofs.Ticks.{run_first, Spanned, Spans, spans_push, kept_runs, length_spans, all_both, rising_left, below_first}
-use Rattle.recorder.proofs.Records.{Rec, rec_words, flat, shape, rec_span, Took, Held, Holds, holds_spans, took_lawful, took_meets, next-there, pick-there, find-here, find_past, find-before}
+use Rattle.recorder.proofs.Ticks.{run_first, Spans, spans_push, kept_runs, length_spans, all_both, rising_left, below_first}
+use Rattle.recorder.proofs.Records.{Rec, rec_words, flat, rec_span, Held, Holds, holds_spans, took_lawful, took_meets, next-there, find-here, find_past, find-before}
 use Rattle.recorder.proofs.Lawful.{answers_ok, answers_err, row_tick_none, slim_row, thin_picks, there, thin, spans_are, Tells, found, told, lawful_tape, Reads, reader_covers}
 use Rattle.recorder.proofs.Base.{Base, base_write, written_rec}
 use Rattle.recorder.proofs.Invariant.{five, Batched, Open, fresh, waiting, running_on, Inv, record_inv, mark_inv, dealt_inv, same_store, as_it_was, batched_push}

@@ -1,5 +1,5 @@
 -- A record written into a store, and the room for it.
-use Rattle.std.proofs.Common.{◌≡◌, ℕ, zero, suc, ◌+◌, ◌-◌, ◌*◌, ◌<◌, ◌≤◌, List, [], ◌∷◌, ◌++◌, length, take, drop, set, sym, refl, ap, ◌∙◌, le_of_suc-le-suc, mul-le-mul_right, add-mul, arith}
+use Rattle.std.proofs.Common.{◌≡◌, ℕ, zero, suc, ◌+◌, ◌-◌, ◌*◌, ◌≤◌, List, [], ◌∷◌, ◌++◌, length, take, drop, set, refl, ap, ◌∙◌, le_of_suc-le-suc, mul-le-mul_right, add-mul, arith}
 use borrow.Rule.Slice.PartMut.{put_mid, Post-is}
 
 two_set : (a : ℕ) (xs rest : List ℕ) (x y : ℕ) → suc (suc a) ≤ length xs → set (set (take (suc (suc a)) xs ++ rest) a x) (suc a) y ≡ take a xs ++ (x ∷ y ∷ rest)

@@ -1,5 +1,5 @@
 -- What holds after any dealings with a tape, whatever the family: covering, fewest, and refusals exact.
-use Rattle.std.specs.Prelude.{◌≡◌, ℕ, zero, suc, ◌+◌, ◌<◌, ◌≤◌, Bool, true, false, cond, ◌&&◌, ◌⊎◌, List, [], ◌∷◌, ◌++◌, map, length, Some, None, Ok, Err, filter, Option, Result, nat_le}
+use Rattle.std.specs.Prelude.{◌≡◌, ℕ, zero, suc, ◌+◌, ◌<◌, ◌≤◌, Bool, true, false, cond, ◌⊎◌, List, [], ◌∷◌, ◌++◌, map, length, Some, None, Ok, Err, filter, Option, Result, nat_le}
 use Rattle.std.specs.List.{AllByRecursion as All}
 use Rattle.words.specs.declared.refusal.Reason.TheVariants.{BadTick, NothingToMark, NoSegment, WordsLength, NoPlace}
 use Rattle.words.specs.declared.refusal.Refusal.{Refusal}
@@ -16,7 +16,7 @@ use Rattle.recorder.specs.declared.tape.Phase.{Phase}
 use Rattle.recorder.specs.declared.tape.Phase.TheVariants.{Fresh, Waiting, Running}
 use Rattle.recorder.specs.declared.tape.OpenTape.{OpenTape}
 use Rattle.recorder.specs.declared.tape.ClosedTape.{ClosedTape}
-use Rattle.recorder.specs.Histories.{World, noted, Recorded, Marked, Asked, Closed, Dealt}
+use Rattle.recorder.specs.Histories.{World, Recorded, Marked, Asked, Closed, Dealt}
 
 -- a segment's first and last tick
 pub record Span : Type 0 where

@@ -1,5 +1,5 @@
 -- The ends of a band, with a `-` and without.
-use Rattle.std.proofs.Common.{◌≡◌, ℕ, false, eqb, List, [], ◌∷◌, get_or, sym, refl, ap, subst, arith}
+use Rattle.std.proofs.Common.{◌≡◌, ℕ, List, [], ◌∷◌, get_or, sym, refl, ap, subst, arith}
 use Rattle.std.proofs.lemmas.Bool.{cond-false, ne_eqb}
 use Rattle.script.specs.Numbers.{number_of}
 use Rattle.script.specs.Rows.{raised, taken_from, end_of}

@@ -1,13 +1,12 @@
 -- What `parse` and `from_str_radix` answer at digits, in the words of `number_of` and `word_of`.
-use Rattle.std.proofs.Common.{◌≡◌, ℕ, ◌+◌, ◌^◌, ◌<◌, ◌≤◌, Bool, true, false, cond, ◌&&◌, eqb, ltb, leb, List, [], ◌∷◌, length, get_or, Some, None, Ok, Err, Option, Result, sym, refl, ap, ◌∙◌, subst, ⊎_elim, arith}
+use Rattle.std.proofs.Common.{◌≡◌, ℕ, ◌^◌, ◌<◌, ◌≤◌, Bool, true, false, ◌&&◌, eqb, ltb, leb, List, [], ◌∷◌, length, get_or, Some, None, Ok, Err, sym, refl, ap, ◌∙◌, subst, arith}
 use Rattle.std.proofs.lemmas.Bool.Decides.{nat_tests}
-use Rattle.std.specs.Result.{OkIff}
-use Rattle.std.specs.Str.Parse.{digits_value, AllDigits, ParsesUnsigned, without_leading_plus}
+use Rattle.std.specs.Str.Parse.{digits_value, AllDigits, ParsesUnsigned}
 use Rattle.std.specs.Char.{is_ascii_hexdigit, digit_value}
 use Rattle.std.specs.Str.{all_ascii_digits}
 use Rattle.std.proofs.lemmas.Str.Parse.{IsNumeralModel, numerals_by_value, tells_all_ascii_digits, parse_digits, without_leading_plus_none}
 use Rattle.std.proofs.lemmas.Int.Digits.{digits_value-lt}
-use Rattle.std.proofs.lemmas.Bool.{and_from, and_parts, and_left, lt-ltb, le-leb, leb-true, ltb-true, cases_Bool, cond-true, cond-false, both_ways, eq-eqb, ne_eqb, and_right}
+use Rattle.std.proofs.lemmas.Bool.{and_from, and_parts, and_left, lt-ltb, le-leb, leb-true, ltb-true, cond-true, cond-false, both_ways, eq-eqb, ne_eqb, and_right}
 use Rattle.script.specs.Numbers.{if_so, is_number, number_of, all_hex, word_of}
 
 none_unless : (b : Bool) (n : ℕ) → (b ≡ true → ⊥) → None ≡ if_so b n

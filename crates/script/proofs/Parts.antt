@@ -1,5 +1,5 @@
 -- A band as an item's text has it, and the two words that it adds to a row.
-use Rattle.std.proofs.Common.{◌≡◌, ℕ, List, [], ◌∷◌, ◌++◌, Some, None, Option, Result, sym, refl, ap, ◌∙◌, subst, inl, inr, append_assoc}
+use Rattle.std.proofs.Common.{◌≡◌, ℕ, List, [], ◌∷◌, ◌++◌, Some, None, Option, Result, sym, ap, ◌∙◌, subst, inr, append_assoc}
 use Rattle.std.specs.Option.{ok_or}
 use Rattle.script.specs.declared.items.Item.{Item}
 use Rattle.script.specs.declared.items.Item.TheVariants.{Band}

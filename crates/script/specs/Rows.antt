@@ -1,5 +1,5 @@
 -- The items of a reading: which texts write them, and the words that they add to the row.
-use Rattle.std.specs.Prelude.{◌≡◌, ℕ, ◌+◌, ◌-◌, Bool, true, false, cond, ◌⊎◌, List, [], ◌∷◌, ◌++◌, drop, Some, None, Option, Result, MatchResult, ◌==◌, ◌≢◌, slice_index}
+use Rattle.std.specs.Prelude.{◌≡◌, ℕ, ◌+◌, ◌-◌, cond, ◌⊎◌, List, [], ◌∷◌, ◌++◌, drop, Some, None, Option, Result, MatchResult, ◌==◌, ◌≢◌, slice_index}
 use Rattle.script.specs.declared.items.Item.{Item}
 use Rattle.script.specs.declared.items.Item.TheVariants as items
 use Rattle.script.specs.declared.slip.Slip.{Slip}

@@ -1,9 +1,8 @@
-use Rattle.std.proofs.Common.{◌≡◌, ℕ, ◌-◌, Bool, true, ◌&&◌, List, length, take, drop, is_ok, refl, ap, ◌∙◌, subst, arith}
+use Rattle.std.proofs.Common.{◌≡◌, ℕ, ◌-◌, Bool, ◌&&◌, List, length, take, drop, refl, ap, ◌∙◌, subst, arith}
 use Rattle.std.proofs.lemmas.Slice.{between_to_end}
 use Rattle.family.specs.Refusing.{Passed, right}
 use Rattle.family.specs.Meaning.{words_refusal}
 use Rattle.layout.specs.Layout.{first_in, last_in, pick_in}
-use Rattle.layout.specs.Records.{framed, record_lawful}
 use Rattle.layout.proofs.Finds.{passed_is}
 use Rattle.layout.proofs.records.check_record.Goals as goal
 

@@ -1,9 +1,9 @@
-use Rattle.std.proofs.Common.{◌≡◌, ℕ, ◌+◌, ◌-◌, ◌<◌, true, false, List, Ok, Err, sym, refl, ap, ◌∙◌, subst, arith}
+use Rattle.std.proofs.Common.{◌≡◌, ℕ, ◌+◌, ◌-◌, ◌<◌, true, false, List, Err, sym, refl, ap, ◌∙◌, arith}
 use Rattle.words.specs.declared.refusal.Reason.TheVariants.{Unlawful}
 use Rattle.words.specs.declared.refusal.Refusal.{Refusal}
 use Rattle.words.specs.Refusals.{refusal_at}
 use Rattle.family.specs.Refusing.{spans}
-use Rattle.layout.specs.Layout.{record_at, first_in, last_in}
+use Rattle.layout.specs.Layout.{first_in}
 use Rattle.layout.specs.Records.{find, record_spans, record_lawful}
 use Rattle.layout.proofs.Finds.{find_record}
 use Rattle.layout.proofs.records.find.Goals as goal

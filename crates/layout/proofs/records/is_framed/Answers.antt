@@ -1,4 +1,4 @@
-use Rattle.std.proofs.Common.{◌≡◌, true, false, sym}
+use Rattle.std.proofs.Common.{sym}
 use Rattle.std.proofs.lemmas.Bool.{false≢true}
 use Rattle.layout.proofs.Cuts.{short_frame}
 use Rattle.layout.proofs.records.is_framed.Goals as goal

@@ -1,4 +1,4 @@
-use Rattle.std.proofs.Common.{◌+◌, ◌-◌, ◌*◌, ◌/◌, ◌≤◌, le_trans, mul-le-mul_right, div-mul-le_self, arith, rules}
+use Rattle.std.proofs.Common.{◌+◌, ◌-◌, ◌/◌, ◌≤◌, le_trans, mul-le-mul_right, div-mul-le_self, arith, rules}
 use Rattle.layout.proofs.records.places.Goals as goal
 
 pub returns-then-room-gt1000000 : goal.returns-then-room-gt1000000

@@ -1,4 +1,4 @@
-use Rattle.std.proofs.Common.{◌≡◌, ℕ, min, length, ap, ◌∙◌}
+use Rattle.std.proofs.Common.{ℕ, min, length, ap, ◌∙◌}
 use Rattle.layout.specs.Layout.{place_at, record_size}
 use Rattle.layout.proofs.Cuts.{cut_out}
 use Rattle.layout.proofs.records.record_at.Goals as goal

@@ -1,9 +1,8 @@
-use Rattle.std.proofs.Common.{◌≡◌, ℕ, ◌+◌, ◌-◌, ◌*◌, List, length, set, pos, sym, refl, ap, ◌∙◌, arith}
-use borrow.Rule.Slice.PartMut.{put_mid}
+use Rattle.std.proofs.Common.{◌≡◌, ◌+◌, length, pos, sym, refl, ◌∙◌, arith}
 use Rattle.words.specs.declared.kind.Kind.TheVariants.{End}
 use Rattle.words.specs.Words.{word_of}
 use Rattle.layout.specs.Layout.{place_at, first_word, count_word}
-use Rattle.recorder.proofs.Writes.{written, record_end, stored}
+use Rattle.recorder.proofs.Writes.{record_end, stored}
 use Rattle.recorder.proofs.write.write_record.Goals as goal
 
 pub returns : goal.returns

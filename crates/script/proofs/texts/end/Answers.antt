@@ -1,4 +1,4 @@
-use Rattle.std.proofs.Common.{Some, None, sym, ap, ◌∙◌, arith, lit<}
+use Rattle.std.proofs.Common.{Some, None, ap, ◌∙◌, arith, lit<}
 use Rattle.std.proofs.lemmas.Str.Pattern.{strip_prefix_char}
 use Rattle.script.specs.Rows.{raised, taken_from}
 use Rattle.script.proofs.Ends.{end_minus, end-plain}

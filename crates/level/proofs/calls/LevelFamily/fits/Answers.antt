@@ -1,4 +1,3 @@
-use Rattle.std.proofs.Common.{refl}
 use Rattle.std.proofs.lemmas.Bool.Decides.{Decides-at}
 use Rattle.family.specs.Readings.{reading}
 use Rattle.family.proofs.Forms.{next_decides}

@@ -1,4 +1,4 @@
-use Rattle.std.proofs.Common.{◌≡◌, ◌<◌, ◌≤◌, sym, refl, ap, ◌∙◌, subst, ap₂, arith, w32, w64, SFits, rules}
+use Rattle.std.proofs.Common.{◌≡◌, ◌<◌, ◌≤◌, sym, ap, ◌∙◌, subst, ap₂, arith, w32, w64, SFits, rules}
 use mathlib.Core.Logic.{∥∥₁_elim}
 use native.Mathlib.Bridge.{le_prop}
 use Rattle.std.proofs.lemmas.Int.{ints}
@@ -7,7 +7,7 @@ use Rattle.hull.specs.declared.point.Point.{Point}
 use Rattle.hull.specs.Hulls.{ends, topmost}
 use Rattle.line.specs.declared.line.Line.{Line}
 use Rattle.line.specs.Picks.{level_pick, pick_through, numbers_hold}
-use Rattle.line.specs.LineMeaning.{Chosen, line_pick, line_slope}
+use Rattle.line.specs.LineMeaning.{Chosen, line_slope}
 use Rattle.line.specs.Choosing.{anchor_from, anchored, no_points, pick_anchored, chosen, line_anchor}
 use Rattle.line.specs.Ranges.{Ranged, anchored_ranged, pick_held, coded, coded_height}
 use Rattle.line.proofs.line.Line.choose.Goals as goal

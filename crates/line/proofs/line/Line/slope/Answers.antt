@@ -3,7 +3,7 @@ use mathlib.Core.Logic.{∥∥₁_elim}
 use mathlib.Core.HLevel.{×_prop}
 use Rattle.slope.specs.Slopes.{Slope, reduced_of}
 use Rattle.line.specs.LineMeaning.{line_slope}
-use Rattle.hull.proofs.Once.{lt_once, le_once}
+use Rattle.hull.proofs.Once.{le_once}
 use Rattle.line.specs.Sloped.{nearest_positive, slope_small}
 use Rattle.line.proofs.line.Line.slope.Goals as goal
 

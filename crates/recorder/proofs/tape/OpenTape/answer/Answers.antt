@@ -1,10 +1,10 @@
-use Rattle.std.proofs.Common.{◌≡◌, ℕ, Bool, false, List, length, Result, sym, ap, ◌∙◌, subst}
+use Rattle.std.proofs.Common.{◌≡◌, ℕ, Bool, false, List, length, Result, sym, ◌∙◌, subst}
 use Rattle.words.specs.declared.refusal.Refusal.{Refusal}
 use Rattle.family.specs.Refusing.{spans}
 use Rattle.reader.specs.Reads.{AnswersRow}
 use Rattle.recorder.specs.declared.tape.Phase.TheVariants.{Running}
 use Rattle.recorder.specs.Steps.{view}
-use Rattle.recorder.specs.Asking.{by_phase, records_value}
+use Rattle.recorder.specs.Asking.{records_value}
 use Rattle.recorder.proofs.Asks.{by_rest, not_spanned, same_width, row_tick_fine, records_say}
 use Rattle.recorder.proofs.tape.OpenTape.answer.Goals as goal
 use Rattle.recorder.proofs.tape.OpenTape.answer.Goals.{in-Running+else-in_span, in_default}

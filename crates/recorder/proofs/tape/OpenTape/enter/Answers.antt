@@ -1,8 +1,8 @@
-use Rattle.std.proofs.Common.{◌≡◌, ℕ, ◌+◌, length, None, Ok, Option, sym, ap, ◌∙◌, subst}
+use Rattle.std.proofs.Common.{◌+◌, Ok, Option, sym, ap, ◌∙◌, subst}
 use Rattle.words.specs.declared.refusal.Refusal.{Refusal}
 use Rattle.family.specs.Readings.{reading}
 use Rattle.recorder.specs.Steps.{View, Outcome, view, outcome_of, answer_by, view_by, store_by, StateBy}
-use Rattle.recorder.specs.Recording.{RecordedBy, event_of}
+use Rattle.recorder.specs.Recording.{RecordedBy}
 use Rattle.recorder.proofs.Readies.{three_none, ready, ready_kept, ready_count, takes}
 use Rattle.recorder.proofs.tape.OpenTape.enter.Goals as goal
 

@@ -1,4 +1,4 @@
-use Rattle.std.proofs.Common.{◌≡◌, ◌+◌, ◌≤◌, length, ap, arith}
+use Rattle.std.proofs.Common.{◌+◌, ◌≤◌, length, ap, arith}
 use Rattle.recorder.specs.Phases.{running, open_first, open_last}
 use Rattle.recorder.proofs.Writes.{room_for}
 use Rattle.recorder.proofs.tape.OpenTape.step.Goals as goal

@@ -1,6 +1,5 @@
 use Rattle.std.proofs.Common.{◌≡◌, ℤ, ◌+ℤ◌, nat_abs, ap, ◌∙◌, arith, w32, SFits, to_z, of_z, rules}
 use Rattle.std.proofs.lemmas.Int.{ints, to_z-of_z}
-use Rattle.words.specs.Kinds.{bias}
 use Rattle.words.proofs.RoundTrip.{room, payload_small}
 use Rattle.words.proofs.word.Word.payload.Goals as goal
 
