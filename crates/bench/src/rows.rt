@@ -1,3 +1,5 @@
+ghost use Rattle.std.specs.Prelude.{◌<◌, pos, ◌≤ℤ◌};
+
 use std::alloc::{AllocError, Global};
 use words::{Kind, Word};
 
@@ -31,14 +33,24 @@ pub fn masks(heap: Global, run: u32) -> Result<Vec<u32>, AllocError> {
     Ok(rows)
 }
 
+// How far a band's ends lie from its middle at a place in the run: the square of the ticks between.
+fn reach(place: u32) -> i32
+    requires { place < 256 }
+    ensures low { pos 0 ≤ℤ result }
+    ensures high { result ≤ℤ pos 16384 }
+{
+    let off = place.abs_diff(128);
+    (off * off) as i32
+}
+
 // Bands that narrow to a point in the middle of each run and widen again, so that each of their ends stays on its hull.
 pub fn bows(heap: Global, run: u32) -> Result<Vec<u32>, AllocError> {
     let mut rows = Vec::new(heap);
     for base in [0, 500_000] {
         for place in 0..run.min(256) {
-            let off = place as i32 - 128;
-            rows.push(word(Kind::Low, base - off * off))?;
-            rows.push(word(Kind::High, base + off * off))?;
+            let reach = reach(place);
+            rows.push(word(Kind::Low, base - reach))?;
+            rows.push(word(Kind::High, base + reach))?;
         }
     }
     Ok(rows)

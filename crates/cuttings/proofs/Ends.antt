@@ -1,6 +1,6 @@
 -- Lists taken apart at their end.
 use Rattle.std.proofs.Common.{◌≡◌, ℕ, List, [], ◌∷◌, ◌++◌, refl, ap, append_assoc, arith}
-use Rattle.std.specs.List.{AllByRecursion as All}
+use Rattle.std.specs.List.{AllByRecursion}
 use Rattle.std.proofs.lemmas.List.{append-nil}
 use Rattle.family.specs.Readings.{Reading, ◌▹◌}
 use Rattle.cuttings.specs.Cutting.{joined, Event, read, mark, readings}
@@ -35,19 +35,19 @@ module _ {A : Type 0} where
   same_last (a ∷ xs) [] x y e = let t : xs ▹ x ≡ [] = cc in absurd (not_nil xs x t)
   same_last (a ∷ xs) (b ∷ ys) x y e = let t : xs ▹ x ≡ ys ▹ y = cc in same_last xs ys x y t
 
-  pub all_init : (P : A → Type 0) (xs : List A) (x : A) → All P (xs ▹ x) → All P xs
+  pub all_init : (P : A → Type 0) (xs : List A) (x : A) → AllByRecursion P (xs ▹ x) → AllByRecursion P xs
   all_init P [] x h = tt
   all_init P (y ∷ xs) x h = (h.0, all_init P xs x h.1)
 
-  pub all_last : (P : A → Type 0) (xs : List A) (x : A) → All P (xs ▹ x) → P x
+  pub all_last : (P : A → Type 0) (xs : List A) (x : A) → AllByRecursion P (xs ▹ x) → P x
   all_last P [] x h = h.0
   all_last P (y ∷ xs) x h = all_last P xs x h.1
 
-  pub all_right : (P : A → Type 0) (xs ys : List A) → All P (xs ++ ys) → All P ys
+  pub all_right : (P : A → Type 0) (xs ys : List A) → AllByRecursion P (xs ++ ys) → AllByRecursion P ys
   all_right P [] ys h = h
   all_right P (y ∷ xs) ys h = all_right P xs ys h.1
 
-  pub all_left : (P : A → Type 0) (xs ys : List A) → All P (xs ++ ys) → All P xs
+  pub all_left : (P : A → Type 0) (xs ys : List A) → AllByRecursion P (xs ++ ys) → AllByRecursion P xs
   all_left P [] ys h = tt
   all_left P (y ∷ xs) ys h = (h.0, all_left P xs ys h.1)
 

@@ -1,7 +1,7 @@
 -- What parts a log of accepted readings and marks into runs: the permitted cuttings, and the tape's own.
--- All lists are oldest first.
+-- AllByRecursion lists are oldest first.
 use Rattle.std.specs.Prelude.{◌≡◌, ℕ, ◌<◌, ◌≤◌, ◌⊎◌, ◌↔◌, List, [], ◌∷◌, ◌++◌, map, length, take}
-use Rattle.std.specs.List.{AllByRecursion as All}
+use Rattle.std.specs.List.{AllByRecursion}
 use Rattle.family.specs.Readings.{Reading, ◌▹◌}
 
 -- runs laid end to end
@@ -31,7 +31,7 @@ pub record Batch (log before : List Event) (batch : List Reading) (after : List 
 
 -- one choice serves all of the run
 abbrev pub Served : {choice : Type 0} → (choice → Reading → Type 0) → List Reading → Type 0
-Served {choice} serves run = (c : choice) × All (serves c) run
+Served {choice} serves run = (c : choice) × AllByRecursion (serves c) run
 
 -- each part of a run that fits fits
 abbrev pub Parted : (List Reading → Type 0) → Type 0
@@ -42,8 +42,8 @@ module _ (fits : List Reading → Type 0) where
   -- each mark some of the runs hold just what came before it, and the others what came after
   pub record Permitted (log : List Event) (runs : List (List Reading)) : Type 0 where
     pub whole : joined runs ≡ readings log
-    pub some : All (λ run. 0 < length run) runs
-    pub fit : All fits runs
+    pub some : AllByRecursion (λ run. 0 < length run) runs
+    pub fit : AllByRecursion fits runs
     pub apart : (before after : List Event) → log ≡ before ++ (mark ∷ after) →
         (early : List (List Reading)) × (late : List (List Reading)) × (runs ≡ early ++ late) × (joined early ≡ readings before) × (joined late ≡ readings after)
 

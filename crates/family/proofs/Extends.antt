@@ -1,6 +1,6 @@
 -- A reading is taken into a run exactly where the run with it fits.
 use Rattle.std.proofs.Common.{◌≡◌, ℕ, Bool, true, false, List, [], ◌∷◌, ◌++◌, length, Some, None, Ok, Err, Option, Result, sym, refl, ap, ◌∙◌, subst, arith}
-use Rattle.std.specs.List.{AllByRecursion as All}
+use Rattle.std.specs.List.{AllByRecursion}
 use Rattle.words.specs.declared.refusal.Reason.TheVariants.{RowLength, BadTick, NoChoice, Unfitting}
 use Rattle.words.specs.declared.refusal.Refusal.{Refusal}
 use Rattle.words.specs.Refusals.{reason_number, refusal_of}
@@ -29,7 +29,7 @@ checked false b o u h = absurd (omega arith)
 module _ {S : Type 0} (m : Meaning S) (k : Laws m) where
   part_fits : (run before part after : List Reading) → run ≡ before ++ (part ++ after) → RunFits m run → RunFits m part
   part_fits run before part after e h =
-      (h.0, all_front (m.serves h.0) part after (all_back (m.serves h.0) before (part ++ after) (subst (All (m.serves h.0)) e h.1)))
+      (h.0, all_front (m.serves h.0) part after (all_back (m.serves h.0) before (part ++ after) (subst (AllByRecursion (m.serves h.0)) e h.1)))
 
   pub ran_fits : {s : S} {run : List Reading} → Ran m s run → RunFits m run
   ran_fits {s} x = (m.picked s, picked_serves m k x)

@@ -1,6 +1,6 @@
 -- Runs of readings, over any family.
 use Rattle.std.specs.Prelude.{◌≡◌, List, ◌++◌, Result, MatchResult}
-use Rattle.std.specs.List.{AllByRecursion as All}
+use Rattle.std.specs.List.{AllByRecursion}
 use Rattle.words.specs.declared.refusal.Reason.TheVariants.{Unfitting}
 use Rattle.words.specs.declared.refusal.Refusal.{Refusal}
 use Rattle.words.specs.Refusals.{refusal_of}
@@ -11,7 +11,7 @@ use Rattle.family.specs.Laws.{Ran}
 module _ {S : Type 0} (m : Meaning S) where
   -- a run fits when one choice serves all of it
   abbrev pub RunFits : List Reading → Type 0
-  RunFits run = (c : m.choice) × All (m.serves c) run
+  RunFits run = (c : m.choice) × AllByRecursion (m.serves c) run
 
   -- each part of a run, of neighbouring readings, fits
   abbrev pub PartsFit : List Reading → Type 0

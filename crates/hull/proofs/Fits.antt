@@ -1,6 +1,6 @@
 -- One reading more: the bounds of the slope tighten, and a line serves exactly where they leave a slope.
 use Rattle.std.proofs.Common.{◌≡◌, ℕ, ◌<◌, List, [], ◌∷◌, ℤ, pos, ◌+ℤ◌, ◌-ℤ◌, ◌*ℤ◌, neg_ℤ, ◌≤ℤ◌, ◌<ℤ◌, ap, arith}
-use Rattle.std.specs.List.{AllByRecursion as All}
+use Rattle.std.specs.List.{AllByRecursion}
 use Rattle.std.proofs.ByRecursion.{All-weaker}
 use Rattle.std.proofs.lemmas.Int.{ints}
 use Rattle.slope.specs.Slopes.{Slope, AtMost}
@@ -32,17 +32,17 @@ apart_sink r u x m h = let g = simp ring at h in simp ring (omega (arith, lins, 
 pub own : (r u : ℤ) (a m : Point) → pos 0 <ℤ u → a.tick ≡ m.tick → (a.height +ℤ m.height) ≤ℤ pos 0 → Apart r u a m
 own r u a m hu e h = let n = simp ring at (mul_le u (a.height +ℤ m.height) (pos 0) (omega (arith, lins)) h) in let t : r *ℤ pos a.tick ≡ r *ℤ pos m.tick = ap (λ (n : ℕ). r *ℤ pos n) e in simp ring (omega (arith, lins, n, t))
 
-both : {P Q R : Point → Type 0} → ((x : Point) → P x → Q x → R x) → (xs : List Point) → All P xs → All Q xs → All R xs
+both : {P Q R : Point → Type 0} → ((x : Point) → P x → Q x → R x) → (xs : List Point) → AllByRecursion P xs → AllByRecursion Q xs → AllByRecursion R xs
 both f [] p q = tt
 both f (x ∷ xs) p q = (f x p.0 q.0, both f xs p.1 q.1)
 
 -- one reading more
 pub bounds_more : (ls ms : List Point) (least fall : Slope) (a b : Point) → Bounds ls ms least fall → a.tick ≡ b.tick → (a.height +ℤ b.height) ≤ℤ pos 0
-    → All (λ x. x.tick < b.tick) ls → All (λ y. y.tick < a.tick) ms
+    → AllByRecursion (λ x. x.tick < b.tick) ls → AllByRecursion (λ y. y.tick < a.tick) ms
     → Bounds (a ∷ ls) (b ∷ ms) (steepest_by (λ y. reaching y a) least ms) (steepest_by (λ x. reaching x b) fall ls)
 bounds_more ls ms least fall a b k e h fl fh =
-    let oh : All (λ y. pos 0 <ℤ (reaching y a).1) ms = All-weaker _ _ (λ y l. over_out y a l) ms fh in
-    let ol : All (λ x. pos 0 <ℤ (reaching x b).1) ls = All-weaker _ _ (λ x l. over_out x b l) ls fl in
+    let oh : AllByRecursion (λ y. pos 0 <ℤ (reaching y a).1) ms = All-weaker _ _ (λ y l. over_out y a l) ms fh in
+    let ol : AllByRecursion (λ x. pos 0 <ℤ (reaching x b).1) ls = All-weaker _ _ (λ x l. over_out x b l) ls fl in
     record {
       enough = λ r u hu p q.
           let i = steepest_out (λ y. reaching y a) least ms r u k.low hu oh p in
@@ -60,7 +60,7 @@ bounds_more ls ms least fall a b k e h fl fh =
 pub line_slopes : (ls ms : List Point) (r u k : ℤ) → Serves ls ms r u k → Slopes ls ms r u
 line_slopes ls ms r u k l = All-weaker _ _ (λ a ha. All-weaker _ _ (λ b hb. apart r u k a b ha hb) ms l.highs) ls l.lows
 
-across : (R : Point → Point → Type 0) (ls ms : List Point) → All (λ a. All (λ b. R a b) ms) ls → All (λ b. All (λ a. R a b) ls) ms
+across : (R : Point → Point → Type 0) (ls ms : List Point) → AllByRecursion (λ a. AllByRecursion (λ b. R a b) ms) ls → AllByRecursion (λ b. AllByRecursion (λ a. R a b) ls) ms
 across R ls [] h = tt
 across R ls (b ∷ ms) h = (All-weaker _ _ (λ a g. g.0) ls h, across R ls ms (All-weaker _ _ (λ a g. g.1) ls h))
 

@@ -1,7 +1,7 @@
 -- The fold over the points keeps the first of the highest.
 use Rattle.std.proofs.Common.{◌≡◌, ℕ, zero, suc, ◌<◌, Bool, true, false, cond, List, [], ◌∷◌, length, get_or, ◌≤ℤ◌, ◌<ℤ◌, fold, sym, refl, subst, arith}
 use lib.Signed.{lt_z}
-use Rattle.std.specs.List.{AllByRecursion as All}
+use Rattle.std.specs.List.{AllByRecursion}
 use Rattle.slope.specs.Slopes.{Slope}
 use Rattle.slope.proofs.Ring.{lins}
 use Rattle.hull.specs.declared.point.Point.{Point}
@@ -11,7 +11,7 @@ use Rattle.hull.specs.Laws.{FirstAmong}
 
 -- the fold from b: b itself, where no point is higher, else the first of the highest points
 data Kept (s : Slope) (b : Point) (ps : List Point) (q : Point) : Type 0 where
-  stays : q ≡ b → All (λ p. lift s p ≤ℤ lift s b) ps → Kept s b ps q
+  stays : q ≡ b → AllByRecursion (λ p. lift s p ≤ℤ lift s b) ps → Kept s b ps q
   moves : lift s b <ℤ lift s q → FirstAmong s ps q → Kept s b ps q
 
 -- what holds of each place before n of a list, and of p, holds of each before n + 1 of the list with p in front
@@ -24,7 +24,7 @@ before_on s p ps q n h f (suc j) l = f j (omega arith)
 goes : (s : Slope) (b p : Point) (ps : List Point) (q : Point) → lift s b <ℤ lift s p → Kept s p ps q → Kept s b (p ∷ ps) q
 goes s b p ps q h (stays e a) =
     let l : lift s b <ℤ lift s q = subst (λ (x : Point). lift s b <ℤ lift s x) (sym e) h in
-    let n : All (λ x. lift s x ≤ℤ lift s q) (p ∷ ps) = subst (λ (y : Point). All (λ x. lift s x ≤ℤ lift s y) (p ∷ ps)) (sym e) ((omega (arith, lins)), a) in
+    let n : AllByRecursion (λ x. lift s x ≤ℤ lift s q) (p ∷ ps) = subst (λ (y : Point). AllByRecursion (λ x. lift s x ≤ℤ lift s y) (p ∷ ps)) (sym e) ((omega (arith, lins)), a) in
     moves l (record { place = 0; inside = omega arith; there = e; none = n; before = λ j g. absurd (omega arith) })
 goes s b p ps q h (moves g f) = moves (omega (arith, lins)) (record {
   place = suc f.place;
@@ -62,7 +62,7 @@ first_kept s p ps q (stays e a) = record {
   place = 0;
   inside = omega arith;
   there = e;
-  none = subst (λ (y : Point). All (λ x. lift s x ≤ℤ lift s y) (p ∷ ps)) (sym e) a;
+  none = subst (λ (y : Point). AllByRecursion (λ x. lift s x ≤ℤ lift s y) (p ∷ ps)) (sym e) a;
   before = λ j g. absurd (omega arith);
 }
 first_kept s p ps q (moves h f) = f

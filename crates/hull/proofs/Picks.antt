@@ -1,6 +1,6 @@
 -- The words of the pick: what each of them is, and what is read back from them.
 use Rattle.std.proofs.Common.{◌≡◌, ℕ, ◌+◌, ◌-◌, ◌/◌, ◌%◌, ◌<◌, ◌≤◌, true, List, length, ℤ, pos, ◌+ℤ◌, ◌-ℤ◌, ◌*ℤ◌, neg_ℤ, ◌≤ℤ◌, sym, subst, arith}
-use Rattle.std.specs.List.{AllByRecursion as All}
+use Rattle.std.specs.List.{AllByRecursion}
 use Rattle.std.proofs.lemmas.Int.{ints}
 use Rattle.slope.specs.Slopes.{Slope, meeting, nearest_of, Nearest, Reduced, Small}
 use Rattle.slope.specs.Values.{value_at}
@@ -20,7 +20,7 @@ use Rattle.hull.proofs.Ranges.{within_between}
 
 module _ (ls ms : List Point) (least fall : Slope) (first last : ℕ) (rise : ℤ) (over g : ℕ)
     (bounds : Bounds ls ms least fall) (some : meeting least fall ≡ true) (full : 0 < length ls)
-    (ticks : All (λ p. (first ≤ p.tick) × (p.tick ≤ last)) ls)
+    (ticks : AllByRecursion (λ p. (first ≤ p.tick) × (p.tick ≤ last)) ls)
     (least_small : Small least) (fall_small : Small fall)
     (edges : (r u k : ℤ) → Serves ls ms r u k → Within u (r *ℤ pos first +ℤ k) × Within u (r *ℤ pos last +ℤ k))
     (reduced : Reduced (nearest_of least fall) (rise, pos over) g) where

@@ -1,6 +1,6 @@
 -- Points in range: a line that serves them is in range too, and the slopes between them are small.
 use Rattle.std.proofs.Common.{◌≡◌, ℕ, ◌+◌, ◌<◌, ◌≤◌, List, [], ◌∷◌, ℤ, pos, ◌+ℤ◌, ◌*ℤ◌, neg_ℤ, ◌≤ℤ◌, ◌<ℤ◌, ap, arith}
-use Rattle.std.specs.List.{AllByRecursion as All}
+use Rattle.std.specs.List.{AllByRecursion}
 use Rattle.std.proofs.lemmas.Int.{ints, by_lt_z}
 use Rattle.slope.specs.Slopes.{Small}
 use Rattle.slope.proofs.Ring.{ring, lins, mul_le}
@@ -23,7 +23,7 @@ pub reach_small : (first : ℕ) (y a : Point) → y.tick < a.tick → a.tick ≤
 reach_small first y a h w na ny = let p = na.1 in let q = na.2 in let r = ny.0 in let s = ny.1 in let t = ny.2 in (omega (arith, ints), omega (arith, ints), omega (arith, ints))
 
 -- what follows of each element from two facts
-pub all_both : {P Q R : Point → Type 0} → ((x : Point) → P x → Q x → R x) → (xs : List Point) → All P xs → All Q xs → All R xs
+pub all_both : {P Q R : Point → Type 0} → ((x : Point) → P x → Q x → R x) → (xs : List Point) → AllByRecursion P xs → AllByRecursion Q xs → AllByRecursion R xs
 all_both f [] p q = tt
 all_both f (x ∷ xs) p q = (f x p.0 q.0, all_both f xs p.1 q.1)
 

@@ -1,6 +1,6 @@
 -- What a push, the steepest slope and the highest point are, in terms of all lines and points.
 use Rattle.std.specs.Prelude.{◌≡◌, ℕ, ◌<◌, List, ◌∷◌, reverse, length, ℤ, pos, ◌+ℤ◌, ◌≤ℤ◌, ◌<ℤ◌, slice_index_or}
-use Rattle.std.specs.List.{AllByRecursion as All}
+use Rattle.std.specs.List.{AllByRecursion}
 use Rattle.slope.specs.Slopes.{Slope, AtMost, Bound}
 use Rattle.hull.specs.declared.point.Point.{Point}
 use Rattle.hull.specs.Points.{reaching, NotBelow, lift}
@@ -10,25 +10,25 @@ use Rattle.hull.specs.Lines.{Serves, Slopes, Bounds}
 -- after a push of a later point, a line is not below the hull exactly where it is below neither the point nor the old hull
 abbrev pub LosesNoLine : Type 0
 LosesNoLine = (ps : List Point) (p : Point) → Falling p (reverse ps) → (r u k : ℤ) → pos 0 <ℤ u
-    → (All (NotBelow r u k) (pushed ps p) → All (NotBelow r u k) (p ∷ ps)) × (All (NotBelow r u k) (p ∷ ps) → All (NotBelow r u k) (pushed ps p))
+    → (AllByRecursion (NotBelow r u k) (pushed ps p) → AllByRecursion (NotBelow r u k) (p ∷ ps)) × (AllByRecursion (NotBelow r u k) (p ∷ ps) → AllByRecursion (NotBelow r u k) (pushed ps p))
 
 -- the steepest of `start` and the slopes from earlier points is at most r / u exactly where each of them is
 abbrev pub TightestBound : Type 0
-TightestBound = (to : Point) (start : Slope) (ps : List Point) → Bound start → All (λ p. p.tick < to.tick) ps → (r u : ℤ) → pos 0 <ℤ u
-    → (AtMost (steepest_to to start ps) r u → AtMost start r u × All (λ p. AtMost (reaching p to) r u) ps)
-    × (AtMost start r u → All (λ p. AtMost (reaching p to) r u) ps → AtMost (steepest_to to start ps) r u)
+TightestBound = (to : Point) (start : Slope) (ps : List Point) → Bound start → AllByRecursion (λ p. p.tick < to.tick) ps → (r u : ℤ) → pos 0 <ℤ u
+    → (AtMost (steepest_to to start ps) r u → AtMost start r u × AllByRecursion (λ p. AtMost (reaching p to) r u) ps)
+    × (AtMost start r u → AllByRecursion (λ p. AtMost (reaching p to) r u) ps → AtMost (steepest_to to start ps) r u)
 
 -- with one reading more, from the low end a to the high end that b is, turned over, each bound tightens to the steepest slope from the other hull
 abbrev pub OneReadingMore : Type 0
 OneReadingMore = (ls ms : List Point) (least fall : Slope) (a b : Point) → Bounds ls ms least fall → a.tick ≡ b.tick → (a.height +ℤ b.height) ≤ℤ pos 0
-    → All (λ x. x.tick < b.tick) ls → All (λ y. y.tick < a.tick) ms → Bounds (a ∷ ls) (b ∷ ms) (steepest_to a least ms) (steepest_to b fall ls)
+    → AllByRecursion (λ x. x.tick < b.tick) ls → AllByRecursion (λ y. y.tick < a.tick) ms → Bounds (a ∷ ls) (b ∷ ms) (steepest_to a least ms) (steepest_to b fall ls)
 
 -- q stands among the points, none is higher against slope s, and each before it is lower
 pub record FirstAmong (s : Slope) (ps : List Point) (q : Point) : Type 0 where
   pub place : ℕ
   pub inside : place < length ps
   pub there : q ≡ slice_index_or ps place origin
-  pub none : All (λ p. lift s p ≤ℤ lift s q) ps
+  pub none : AllByRecursion (λ p. lift s p ≤ℤ lift s q) ps
   pub before : (j : ℕ) → j < place → lift s (slice_index_or ps j origin) <ℤ lift s q
 
 -- the highest point against a slope is the first such

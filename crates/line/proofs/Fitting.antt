@@ -2,7 +2,7 @@
 use Rattle.std.proofs.Common.{◌≡◌, ℕ, zero, suc, ◌+◌, ◌<◌, ◌≤◌, true, ◌∷◌, ℤ, pos, ◌+ℤ◌, ◌*ℤ◌, ◌≤ℤ◌, Some, None, Option, sym, refl, subst, arith}
 use mathlib.Core.Bool.{Bool-set}
 use mathlib.Core.Logic.{∥∥₁_elim, ∥∥₁_map}
-use Rattle.std.specs.List.{AllByRecursion as All}
+use Rattle.std.specs.List.{AllByRecursion}
 use Rattle.std.proofs.lemmas.Int.{ints}
 use Rattle.family.specs.Readings.{Reading, Above}
 use Rattle.family.specs.Meaning.{Fits}
@@ -90,7 +90,7 @@ module _ (s : Line) (r : Reading) (h : Reaches s r.tick) (w : low_of r.row ≤�
 
   module _ (nl : Near r.tick (low_end r)) (nh : Near r.tick (high_end r)) (m : Meets s r)
       (lows' highs' : Hull) (p q : Slope) (el : ends lows' ≡ pushed (ends s.lows) (low_end r)) (eh : ends highs' ≡ pushed (ends s.highs) (high_end r)) (ep : p ≡ least_with s r) (eq : q ≡ fall_with s r) where
-    next_sound : (first' : ℕ) → r.tick ≤ first' + 255 → first' ≤ r.tick → (x : StateSound) → All (Near first') (ends s.lows) → All (Near first') (ends s.highs)
+    next_sound : (first' : ℕ) → r.tick ≤ first' + 255 → first' ≤ r.tick → (x : StateSound) → AllByRecursion (Near first') (ends s.lows) → AllByRecursion (Near first') (ends s.highs)
         → ((r₀ u k : ℤ) → Serves (low_end r ∷ ends s.lows) (high_end r ∷ ends s.highs) r₀ u k → Within u (r₀ *ℤ pos first' +ℤ k)) → Sound lows' highs' p q first' r.tick
     next_sound first' win f x al ah edge =
         sound_after s.lows s.highs s.least s.fall (low_end r) (high_end r) x.bounds (falls_low s (low_end r) later x) (falls_high s (high_end r) later x) refl (ordered r w)
@@ -101,7 +101,7 @@ module _ (s : Line) (r : Reading) (h : Reaches s r.tick) (w : low_of r.row ≤�
         let z = no_points s.lows.len r.tick s.first e in
         let eh0 : s.highs.len ≡ 0 = (let k = s.room in omega (arith, k)) in
         subst (λ (f : ℕ). Sound lows' highs' p q f r.tick) (sym z)
-        (next_sound r.tick (omega arith) (omega arith) x (subst (All (Near r.tick)) (sym (no_ends s.lows e)) tt) (subst (All (Near r.tick)) (sym (no_ends s.highs eh0)) tt)
+        (next_sound r.tick (omega arith) (omega arith) x (subst (AllByRecursion (Near r.tick)) (sym (no_ends s.lows e)) tt) (subst (AllByRecursion (Near r.tick)) (sym (no_ends s.highs eh0)) tt)
         (λ r₀ u k l. edge_at r.tick (low_end r) (high_end r) r₀ u k l.over refl nl nh l.lows.0 l.highs.0))
     by_count (suc n) e x =
         let i : 0 < s.lows.len = omega arith in

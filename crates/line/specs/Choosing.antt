@@ -6,7 +6,7 @@ use Rattle.std.proofs.Math.Logic.{∥∥₁_elim}
 use Rattle.std.proofs.Math.Bridge.{le_prop}
 use Rattle.std.proofs.Math.Nat.{ℕ_set}
 use Rattle.std.proofs.Math.IntN.{ℤ_set}
-use Rattle.std.specs.List.{AllByRecursion as All}
+use Rattle.std.specs.List.{AllByRecursion}
 use Rattle.std.proofs.lemmas.List.{length-take}
 use Rattle.std.proofs.lemmas.Int.{ints}
 use Rattle.hull.specs.declared.point.Point.{Point}
@@ -65,7 +65,7 @@ module _ (s : Line) (n : 0 < s.lows.len) where
   full = let z = length-take s.lows.len s.lows.points in let h = s.lows.sound in omega (arith, z, h)
 
   module _ (x : StateSound s) where
-    ticks : All (λ p. (s.first ≤ p.tick) × (p.tick ≤ s.last)) (ends s.lows)
+    ticks : AllByRecursion (λ p. (s.first ≤ p.tick) × (p.tick ≤ s.last)) (ends s.lows)
     ticks =
         let q : Point = record { tick = suc s.last; height = pos 0 } in
         let h : s.last < suc s.last = omega arith in

@@ -1,7 +1,7 @@
 -- A reading taken into a state: which lines serve it too, and that the state is sound then.
 use Rattle.std.specs.Prelude.{◌≡◌, ℕ, ◌+◌, ◌<◌, ◌≤◌, true, List, [], ◌∷◌, reverse, take, ℤ, pos, ◌+ℤ◌, ◌*ℤ◌, ◌≤ℤ◌, ◌<ℤ◌, refl}
 use Rattle.std.proofs.Common.{ap, ap₂, sym, ◌∙◌, subst, inr, arith}
-use Rattle.std.specs.List.{AllByRecursion as All}
+use Rattle.std.specs.List.{AllByRecursion}
 use Rattle.std.proofs.ByRecursion.{All-weaker}
 use Rattle.std.proofs.lemmas.Int.{ints}
 use Rattle.hull.specs.declared.point.Point.{Point}
@@ -29,10 +29,10 @@ module _ (lows highs : Hull) (least fall : Slope) (a b : Point) (bounds : Bounds
   abbrev fall' : Slope
   fall' = steepest_to b fall (ends lows)
 
-  lows_before : All (λ x. x.tick < b.tick) (ends lows)
+  lows_before : AllByRecursion (λ x. x.tick < b.tick) (ends lows)
   lows_before = All-weaker (λ x. x.tick < a.tick) (λ x. x.tick < b.tick) (λ x h. omega arith) (ends lows) (all_unreverse (λ x. x.tick < a.tick) (ends lows) (falling_all a (reverse (ends lows)) fl))
 
-  highs_before : All (λ y. y.tick < a.tick) (ends highs)
+  highs_before : AllByRecursion (λ y. y.tick < a.tick) (ends highs)
   highs_before = All-weaker (λ y. y.tick < b.tick) (λ y. y.tick < a.tick) (λ y h. omega arith) (ends highs) (all_unreverse (λ y. y.tick < b.tick) (ends highs) (falling_all b (reverse (ends highs)) fh))
 
   after : Bounds (a ∷ ends lows) (b ∷ ends highs) least' fall'
@@ -54,7 +54,7 @@ module _ (lows highs : Hull) (least fall : Slope) (a b : Point) (bounds : Bounds
   bounds_meet r u k l = let o = fits_no (a ∷ ends lows) (b ∷ ends highs) least' fall' r u k after l in sym (omega (arith, lins))
 
   module _ (first' : ℕ) (window : a.tick ≤ first' + 255) (na : Near first' a) (nb : Near first' b)
-      (nl : All (Near first') (ends lows)) (nh : All (Near first') (ends highs)) (sl : Small least) (sf : Small fall)
+      (nl : AllByRecursion (Near first') (ends lows)) (nh : AllByRecursion (Near first') (ends highs)) (sl : Small least) (sf : Small fall)
       (edge : (r u k : ℤ) → Serves (a ∷ ends lows) (b ∷ ends highs) r u k → Within u (r *ℤ pos first' +ℤ k))
       (lows' highs' : Hull) (p q : Slope) (el : ends lows' ≡ pushed (ends lows) a) (eh : ends highs' ≡ pushed (ends highs) b) (ep : p ≡ least') (eq : q ≡ fall') where
     pub sound_after : meeting least' fall' ≡ true → Sound lows' highs' p q first' a.tick
@@ -67,8 +67,8 @@ module _ (lows highs : Hull) (least fall : Slope) (a b : Point) (bounds : Bounds
           some = ap₂ meeting ep eq ∙ m;
           lows_fall = λ x g. subst (λ (l : List Point). Falling x (reverse l)) (sym el) (falling_next (ends lows) a x g fl);
           highs_fall = λ x g. let g2 : b.tick < x.tick = omega arith in subst (λ (l : List Point). Falling x (reverse l)) (sym eh) (falling_next (ends highs) b x g2 fh);
-          lows_near = subst (All (Near first')) (sym el) (push_in (Near first') (ends lows) a (na, nl));
-          highs_near = subst (All (Near first')) (sym eh) (push_in (Near first') (ends highs) b (nb, nh));
+          lows_near = subst (AllByRecursion (Near first')) (sym el) (push_in (Near first') (ends lows) a (na, nl));
+          highs_near = subst (AllByRecursion (Near first')) (sym eh) (push_in (Near first') (ends highs) b (nb, nh));
           least_small = subst Small (sym ep) (steepest_small (λ y. reaching y a) least (ends highs) sl (all_both (λ y g ny. reach_small first' y a g window na ny) (ends highs) highs_before nh));
           fall_small = subst Small (sym eq) (steepest_small (λ x. reaching x b) fall (ends lows) sf (all_both (λ x g nx. reach_small first' x b g wb nb nx) (ends lows) lows_before nl));
           edges = λ z r u k l.
@@ -91,8 +91,8 @@ sound_none lows highs zl zh =
       some = refl;
       lows_fall = λ p g. subst (λ (l : List Point). Falling p (reverse l)) (sym el) tt;
       highs_fall = λ p g. subst (λ (l : List Point). Falling p (reverse l)) (sym eh) tt;
-      lows_near = subst (All (Near 0)) (sym el) tt;
-      highs_near = subst (All (Near 0)) (sym eh) tt;
+      lows_near = subst (AllByRecursion (Near 0)) (sym el) tt;
+      highs_near = subst (AllByRecursion (Near 0)) (sym eh) tt;
       least_small = (omega (arith, ints), omega (arith, ints), omega (arith, ints));
       fall_small = (omega (arith, ints), omega (arith, ints), omega (arith, ints));
       edges = λ y. absurd (omega arith);

@@ -1,7 +1,7 @@
 -- What the store and the log keep from dealing to dealing.
 use Rattle.std.proofs.Common.{◌≡◌, ℕ, ◌+◌, ◌-◌, ◌*◌, ◌/◌, ◌<◌, ◌≤◌, min, Bool, true, false, cond, ltb, leb, ◌⊎◌, List, [], ◌∷◌, ◌++◌, length, take, drop, Some, None, Option, sym, refl, ap, ◌∙◌, subst, inl, inr, le_trans, mul-le-mul_right, add-mul, zero-mul, div-mul-le_self, arith, length-append, ltb-false, le-ltb, lt-ltb, le-leb, leb-true}
 use borrow.Author.Tests.{lt-leb}
-use Rattle.std.specs.List.{AllByRecursion as All}
+use Rattle.std.specs.List.{AllByRecursion}
 use Rattle.std.proofs.lemmas.List.{append-nil, length-set, length-take-le, length-drop}
 use Rattle.std.proofs.ByRecursion.{All-weaker, All-push}
 use Rattle.std.proofs.lemmas.Bool.{cases_lt}
@@ -88,11 +88,11 @@ is_past (Some l) t h = go (cases_lt l t)
     go (inr k) = let e : true ≡ false = sym (le-leb t l k) ∙ h in let z : ◌≡◌ {A = ℕ} 0 1 = cc in absurd (omega arith)
 
 -- a tick past the last accepted one is past all
-pub all_past : (rs : List Reading) (t : ℕ) → Rising rs → Past (last_tick rs) t → All (λ q. q.tick < t) rs
+pub all_past : (rs : List Reading) (t : ℕ) → Rising rs → Past (last_tick rs) t → AllByRecursion (λ q. q.tick < t) rs
 all_past [] t h k = tt
 all_past (r ∷ []) t h k = (k, tt)
 all_past (r ∷ q ∷ rs) t h k =
-    let more : All (λ q. q.tick < t) (q ∷ rs) = all_past (q ∷ rs) t h.1 k in
+    let more : AllByRecursion (λ q. q.tick < t) (q ∷ rs) = all_past (q ∷ rs) t h.1 k in
     (omega (arith, h.0.0, more.0), more)
 
 module _ {S : Type 0} (m : Meaning S) where
@@ -134,7 +134,7 @@ module _ {S : Type 0} (m : Meaning S) where
     pub shaped : 2 ≤ len → store ≡ shape (tape_word m.pick_width) (count_word n) recs rest
     pub holds : Holds m recs done
     pub rising : Rising (readings log)
-    pub timely : All (λ r. r.tick ≤ 268435455) (readings log)
+    pub timely : AllByRecursion (λ r. r.tick ≤ 268435455) (readings log)
 
   pub base_read : (log : List Event) (recs : List Rec) (done : List (List Reading)) (wd len pl n : ℕ) (store : List ℕ) (r : Reading) →
       Base log recs done wd len pl n store → refusal m r ≡ None → Past (last_tick (readings log)) r.tick → Base (log ▹ read r) recs done wd len pl n store
@@ -148,7 +148,7 @@ module _ {S : Type 0} (m : Meaning S) where
     shaped = b.shaped;
     holds = b.holds;
     rising = subst Rising (sym (readings_read log r)) (rising_push (readings log) r b.rising (all_past (readings log) r.tick b.rising past));
-    timely = subst (All (λ (r : Reading). r.tick ≤ 268435455)) (sym (readings_read log r)) (All-push (λ (r : Reading). r.tick ≤ 268435455) (readings log) r b.timely (tick_fits r good));
+    timely = subst (AllByRecursion (λ (r : Reading). r.tick ≤ 268435455)) (sym (readings_read log r)) (All-push (λ (r : Reading). r.tick ≤ 268435455) (readings log) r b.timely (tick_fits r good));
   }
 
   pub base_mark : (log : List Event) (recs : List Rec) (done : List (List Reading)) (wd len pl n : ℕ) (store : List ℕ) →
@@ -163,7 +163,7 @@ module _ {S : Type 0} (m : Meaning S) where
     shaped = b.shaped;
     holds = b.holds;
     rising = subst Rising (sym (readings_mark log)) b.rising;
-    timely = subst (All (λ (r : Reading). r.tick ≤ 268435455)) (sym (readings_mark log)) b.timely;
+    timely = subst (AllByRecursion (λ (r : Reading). r.tick ≤ 268435455)) (sym (readings_mark log)) b.timely;
   }
 
   abbrev pub written_rec : S → ℕ → ℕ → Bool → Rec

@@ -1,6 +1,6 @@
 -- A store that the recorder wrote is a lawful tape, and the reader finds a value for each reading in it.
 use Rattle.std.proofs.Common.{◌≡◌, ℕ, ◌+◌, ◌-◌, ◌*◌, ◌<◌, ◌≤◌, Bool, true, List, [], ◌∷◌, ◌++◌, map, length, get_or, drop, None, Ok, Err, Option, Result, sym, refl, ap, ◌∙◌, subst, mul-le-mul_right, one-mul, zero-mul, arith, lt-ltb, eq-eqb, le-leb}
-use Rattle.std.specs.List.{AllByRecursion as All}
+use Rattle.std.specs.List.{AllByRecursion}
 use Rattle.std.proofs.ByRecursion.{All-weaker}
 use Rattle.std.proofs.lemmas.Bool.{cond-true, and_from}
 use Rattle.words.specs.declared.kind.Kind.TheVariants.{Count}
@@ -90,12 +90,12 @@ module _ {S : Type 0} (m : Meaning S) (laws : Laws m) where
     abbrev pub Tells : ℕ → ℕ → Reading → Type 0
     Tells w k r = (j : ℕ) × (find m w store r.tick k 0 ≡ Ok j) × m.meets (m.value (pick_in (record_at m.pick_width store j)) r.tick) r.row
 
-    pub found : m.value_width < 65535 → n ≤ pl → Rising (joined done) → All (Tells m.pick_width n) (joined done)
+    pub found : m.value_width < 65535 → n ≤ pl → Rising (joined done) → AllByRecursion (Tells m.pick_width n) (joined done)
     found slim le rise =
-        subst (λ (j : ℕ). All (Tells m.pick_width j) (joined done)) (sym b.count)
+        subst (λ (j : ℕ). AllByRecursion (Tells m.pick_width j) (joined done)) (sym b.count)
         (go recs done (λ h. omega (arith, b.count)) (λ h. there h) b.holds rise)
       where
-        go : (cs : List Rec) (runs : List (List Reading)) → (0 < length cs → 0 < pl) → (0 < pl → drop (place_at m.pick_width 0) store ≡ flat cs ++ b.rest) → Holds m cs runs → Rising (joined runs) → All (Tells m.pick_width (length cs)) (joined runs)
+        go : (cs : List Rec) (runs : List (List Reading)) → (0 < length cs → 0 < pl) → (0 < pl → drop (place_at m.pick_width 0) store ≡ flat cs ++ b.rest) → Holds m cs runs → Rising (joined runs) → AllByRecursion (Tells m.pick_width (length cs)) (joined runs)
         go [] [] p e h r = tt
         go [] (x ∷ runs) p e h r = absurd h
         go (c ∷ cs) runs p e h r = let some = p (omega arith) in find-all m laws (thin some) slim store (c ∷ cs) runs b.rest 0 (e some) h r
@@ -131,10 +131,10 @@ module _ {S : Type 0} (m : Meaning S) (laws : Laws m) where
         ∙ records_fine le first_one rise
 
     -- so it gives a value for each reading in the records
-    pub reader_covers : n ≤ pl → Batched recs true → Rising (joined done) → All (λ r. r.tick ≤ 268435455) (joined done) → All (Reads store) (joined done)
+    pub reader_covers : n ≤ pl → Batched recs true → Rising (joined done) → AllByRecursion (λ r. r.tick ≤ 268435455) (joined done) → AllByRecursion (Reads store) (joined done)
     reader_covers le first_one rise timely = go recs done refl
       where
-        each : 0 < pl → All (Reads store) (joined done)
+        each : 0 < pl → AllByRecursion (Reads store) (joined done)
         each some =
             All-weaker (λ (r : Reading). (r.tick ≤ 268435455) × (m.value_width < 65535 → Tells m.pick_width n r)) (Reads store)
             (λ r p row row' a e h'.
@@ -151,12 +151,12 @@ module _ {S : Type 0} (m : Meaning S) (laws : Laws m) where
             (ok, subst (λ (x : List ℕ). m.meets x r.row) (sym is) f.2))
             (joined done) (both (joined done) timely (λ slim. found slim le rise))
           where
-            both : (rs : List Reading) → All (λ r. r.tick ≤ 268435455) rs → (m.value_width < 65535 → All (Tells m.pick_width n) rs) → All (λ (r : Reading). (r.tick ≤ 268435455) × (m.value_width < 65535 → Tells m.pick_width n r)) rs
+            both : (rs : List Reading) → AllByRecursion (λ r. r.tick ≤ 268435455) rs → (m.value_width < 65535 → AllByRecursion (Tells m.pick_width n) rs) → AllByRecursion (λ (r : Reading). (r.tick ≤ 268435455) × (m.value_width < 65535 → Tells m.pick_width n r)) rs
             both [] h k = tt
             both (r ∷ rs) h k = ((h.0, λ slim. (k slim).0), both rs h.1 (λ slim. (k slim).1))
 
-        go : (cs : List Rec) (runs : List (List Reading)) → cs ≡ recs → All (Reads store) (joined done)
-        go [] runs e = subst (λ (l : List (List Reading)). All (Reads store) (joined l)) (nil done (subst (λ (x : List Rec). Holds m x done) (sym e) b.holds)) tt
+        go : (cs : List Rec) (runs : List (List Reading)) → cs ≡ recs → AllByRecursion (Reads store) (joined done)
+        go [] runs e = subst (λ (l : List (List Reading)). AllByRecursion (Reads store) (joined l)) (nil done (subst (λ (x : List Rec). Holds m x done) (sym e) b.holds)) tt
           where
             nil : (runs : List (List Reading)) → Holds m [] runs → [] ≡ runs
             nil [] h = refl

@@ -1,7 +1,7 @@
 -- The records in a store, and the runs that they hold.
 use Rattle.std.proofs.Common.{◌≡◌, ℕ, suc, ◌+◌, ◌-◌, ◌*◌, ◌<◌, ◌≤◌, Bool, true, false, cond, ◌&&◌, ◌||◌, leb, List, [], ◌∷◌, ◌++◌, map, length, get_or, take, drop, set, pos, Some, None, Ok, Option, sym, refl, ap, ◌∙◌, subst, append_assoc, add-mul, arith, lt-ltb, eq-eqb, le-leb}
 use borrow.Author.Tests.{lt-leb}
-use Rattle.std.specs.List.{AllByRecursion as All}
+use Rattle.std.specs.List.{AllByRecursion}
 use Rattle.std.proofs.lemmas.List.{append-nil, take_at, drop_at, drop-drop}
 use Rattle.std.proofs.ByRecursion.{All-weaker, All-append, All-push}
 use Rattle.std.proofs.lemmas.Bool.{and_from, and_left, and_right, cond-true, cond-false, or_left, or_right, false≢true}
@@ -122,7 +122,7 @@ module _ {S : Type 0} (m : Meaning S) where
   holds_spans (x ∷ cs) (y ∷ runs) h = (h.0.took.spans, holds_spans cs runs h.1)
 
   -- the readings of a run are in form
-  pub ran_formed : {s : S} {run : List Reading} → Ran m s run → All (λ (r : Reading). form_refusal m r ≡ None) run
+  pub ran_formed : {s : S} {run : List Reading} → Ran m s run → AllByRecursion (λ (r : Reading). form_refusal m r ≡ None) run
   ran_formed (ran_none z) = tt
   ran_formed (ran_more {rs = rs} {r = r} g good _ _) = All-push (λ (q : Reading). form_refusal m q ≡ None) rs r (ran_formed g) (refusal_parts (form_refusal m r) (m.unserved r) good).0
 
@@ -137,7 +137,7 @@ module _ {S : Type 0} (m : Meaning S) where
         ∙ run_lawful s run t.spans.some t.ran
 
     -- the picked value meets each row of the run
-    pub took_meets : m.value_width < 65535 → (s : S) (run : List Reading) → Ran m s run → All (λ r. m.meets (m.value (m.words s) r.tick) r.row) run
+    pub took_meets : m.value_width < 65535 → (s : S) (run : List Reading) → Ran m s run → AllByRecursion (λ r. m.meets (m.value (m.words s) r.tick) r.row) run
     took_meets slim s run g =
         All-weaker (λ (r : Reading). (form_refusal m r ≡ None) × m.serves (m.picked s) r) (λ (r : Reading). m.meets (m.value (m.words s) r.tick) r.row)
         (λ r h. laws.reads_back s r thin slim h.0 h.1) run (all_both _ _ run (ran_formed g) (picked_serves m laws g))
@@ -213,7 +213,7 @@ module _ {S : Type 0} (m : Meaning S) where
       Found-for k i r = (j : ℕ) × (find m m.pick_width store r.tick k i ≡ Ok j) × m.meets (m.value (pick_in (record_at m.pick_width store j)) r.tick) r.row
 
       pub find-all : (cs : List Rec) (runs : List (List Reading)) (rest : List ℕ) (i : ℕ) → drop (place_at m.pick_width i) store ≡ flat cs ++ rest → Holds cs runs → Rising (joined runs) →
-          All (Found-for (length cs) i) (joined runs)
+          AllByRecursion (Found-for (length cs) i) (joined runs)
       find-all [] [] rest i e h rise = tt
       find-all [] (x ∷ runs) rest i e h rise = absurd h
       find-all (c ∷ cs) [] rest i e h rise = absurd h
@@ -221,8 +221,8 @@ module _ {S : Type 0} (m : Meaning S) where
           let held = h.0 in
           let there : drop (place_at m.pick_width i) store ≡ rec_words c ++ (flat cs ++ rest) = e ∙ append_assoc (rec_words c) (flat cs) rest in
           let pick = pick-there c run held store (flat cs ++ rest) i there in
-          let meet : All (λ r. m.meets (m.value (pick_in (record_at m.pick_width store i)) r.tick) r.row) run =
-          subst (λ (ws : List ℕ). All (λ r. m.meets (m.value ws r.tick) r.row) run) (sym (pick ∙ held.picked)) (took_meets slim held.state run held.took.ran) in
+          let meet : AllByRecursion (λ r. m.meets (m.value (pick_in (record_at m.pick_width store i)) r.tick) r.row) run =
+          subst (λ (ws : List ℕ). AllByRecursion (λ r. m.meets (m.value ws r.tick) r.row) run) (sym (pick ∙ held.picked)) (took_meets slim held.state run held.took.ran) in
           let later = find-all cs runs rest (i + 1) (next-there c run held store (flat cs ++ rest) i there) h.1 (rising_right run (joined runs) rise) in
           let above = above_last run (joined runs) held.took.spans.some rise in
           All-append (Found-for (suc (length cs)) i) run (joined runs)
@@ -253,7 +253,7 @@ module _ {S : Type 0} (m : Meaning S) where
       abbrev pub Starts : Option ℕ → List Rec → List (List Reading) → Type 0
       Starts None [] runs = Unit {0}
       Starts None (c ∷ cs) runs = c.batch ≡ true
-      Starts (Some l) cs runs = All (λ (r : Reading). l < r.tick) (joined runs)
+      Starts (Some l) cs runs = AllByRecursion (λ (r : Reading). l < r.tick) (joined runs)
 
       first-follows : (before : Option ℕ) (c : Rec) (cs : List Rec) (run : List Reading) (runs : List (List Reading)) → Held c run → Starts before (c ∷ cs) (run ∷ runs) → follows before (rec_words c) ≡ true
       first-follows None c cs run runs held h = begins-batch c run held h
@@ -270,7 +270,7 @@ module _ {S : Type 0} (m : Meaning S) where
           let w : ℕ = m.pick_width in
           let held = h.0 in
           let there : drop (place_at m.pick_width i) store ≡ rec_words c ++ (flat cs ++ rest) = e ∙ append_assoc (rec_words c) (flat cs) rest in
-          let above : All (λ (r : Reading). c.last < r.tick) (joined runs) =
+          let above : AllByRecursion (λ (r : Reading). c.last < r.tick) (joined runs) =
           All-weaker (λ (r : Reading). run_last run < r.tick) (λ (r : Reading). c.last < r.tick) (λ r p. omega (arith, held.took.spans.last)) (joined runs) (above_last run (joined runs) held.took.spans.some rise) in
           let tail = records-ok cs runs rest (i + 1) (Some c.last) (next-there c run held store (flat cs ++ rest) i there) h.1 (rising_right run (joined runs) rise) above in
           ap (λ (ws : List ℕ). cond (follows before ws && record_lawful m ws) (records_fault m w store (length cs) (i + 1) (Some (last_in ws))) (Some (place_at w i))) (words-there c run held store (flat cs ++ rest) i there)

@@ -1,7 +1,7 @@
 -- Rising ticks, and the readings between two of them.
 use Rattle.std.proofs.Common.{◌≡◌, ℕ, suc, ◌<◌, ◌≤◌, Bool, true, false, leb, List, [], ◌∷◌, ◌++◌, map, length, Some, filter, sym, refl, ap, ◌∙◌, subst, append_assoc, arith, le-leb}
 use borrow.Author.Tests.{lt-leb}
-use Rattle.std.specs.List.{AllByRecursion as All}
+use Rattle.std.specs.List.{AllByRecursion}
 use Rattle.std.proofs.lemmas.List.{append-nil}
 use Rattle.std.proofs.lemmas.List.Elements.{filter-append}
 use Rattle.std.proofs.ByRecursion.{All-push, All-weaker}
@@ -26,7 +26,7 @@ pub last_is_run_last : (r : Reading) (rs : List Reading) → last_tick (r ∷ rs
 last_is_run_last r [] = refl
 last_is_run_last r (q ∷ rs) = last_is_run_last q rs
 
-pub all_both : {X : Type 0} (P Q : X → Type 0) (xs : List X) → All P xs → All Q xs → All (λ x. P x × Q x) xs
+pub all_both : {X : Type 0} (P Q : X → Type 0) (xs : List X) → AllByRecursion P xs → AllByRecursion Q xs → AllByRecursion (λ x. P x × Q x) xs
 all_both P Q [] h k = tt
 all_both P Q (x ∷ xs) h k = ((h.0, k.0), all_both P Q xs h.1 k.1)
 
@@ -38,7 +38,7 @@ pub rising_left : (a b : List Reading) → Rising (a ++ b) → Rising a
 rising_left [] b h = tt
 rising_left (r ∷ a) b h = (all_left (λ (q : Reading). r.tick < q.tick) a b h.0, rising_left a b h.1)
 
-pub rising_push : (rs : List Reading) (r : Reading) → Rising rs → All (λ q. q.tick < r.tick) rs → Rising (rs ▹ r)
+pub rising_push : (rs : List Reading) (r : Reading) → Rising rs → AllByRecursion (λ q. q.tick < r.tick) rs → Rising (rs ▹ r)
 rising_push [] r h k = (tt, tt)
 rising_push (q ∷ rs) r h k = (All-push (λ (x : Reading). q.tick < x.tick) rs r h.0 k.0, rising_push rs r h.1 k.1)
 
@@ -57,13 +57,13 @@ first_push [] r h = absurd (omega arith)
 first_push (q ∷ rs) r h = refl
 
 -- what stands behind a run is above its last tick
-pub above_last : (run rest : List Reading) → 0 < length run → Rising (run ++ rest) → All (λ q. run_last run < q.tick) rest
+pub above_last : (run rest : List Reading) → 0 < length run → Rising (run ++ rest) → AllByRecursion (λ q. run_last run < q.tick) rest
 above_last [] rest h k = absurd (omega arith)
 above_last (r ∷ []) rest h k = k.0
 above_last (r ∷ q ∷ run) rest h k = above_last (q ∷ run) rest (omega arith) k.1
 
 -- what stands before a run is below its first tick
-pub below_first : (early run rest : List Reading) → 0 < length run → Rising (early ++ (run ++ rest)) → All (λ q. q.tick < run_first run) early
+pub below_first : (early run rest : List Reading) → 0 < length run → Rising (early ++ (run ++ rest)) → AllByRecursion (λ q. q.tick < run_first run) early
 below_first [] run rest h k = tt
 below_first (q ∷ early) [] rest h k = absurd (omega arith)
 below_first (q ∷ early) (r ∷ run) rest h k = ((all_right (λ (x : Reading). q.tick < x.tick) early (r ∷ (run ++ rest)) k.0).0, below_first early (r ∷ run) rest (omega arith) k.1)
@@ -73,7 +73,7 @@ pub record Spanned (f l : ℕ) (run : List Reading) : Type 0 where
   pub some : 0 < length run
   pub first : f ≡ run_first run
   pub last : l ≡ run_last run
-  pub within : All (λ r. (f ≤ r.tick) × (r.tick ≤ l)) run
+  pub within : AllByRecursion (λ r. (f ≤ r.tick) × (r.tick ≤ l)) run
   pub ordered : f ≤ l
 
 abbrev pub Spans : List Span → List (List Reading) → Type 0
@@ -88,24 +88,24 @@ spans_push [] (x ∷ runs) s run h k = absurd h
 spans_push (x ∷ spans) [] s run h k = absurd h
 spans_push (x ∷ spans) (y ∷ runs) s run h k = (h.0, spans_push spans runs s run h.1 k)
 
-kept_all : (test : Reading → Bool) (rs : List Reading) → All (λ r. test r ≡ true) rs → filter test rs ≡ rs
+kept_all : (test : Reading → Bool) (rs : List Reading) → AllByRecursion (λ r. test r ≡ true) rs → filter test rs ≡ rs
 kept_all test [] h = refl
 kept_all test (r ∷ rs) h = cond-true (test r) (r ∷ filter test rs) (filter test rs) h.0 ∙ ap (λ (l : List Reading). r ∷ l) (kept_all test rs h.1)
 
-kept_none : (test : Reading → Bool) (rs : List Reading) → All (λ r. test r ≡ false) rs → filter test rs ≡ []
+kept_none : (test : Reading → Bool) (rs : List Reading) → AllByRecursion (λ r. test r ≡ false) rs → filter test rs ≡ []
 kept_none test [] h = refl
 kept_none test (r ∷ rs) h = cond-false (test r) (r ∷ filter test rs) (filter test rs) h.0 ∙ kept_none test rs h.1
 
 -- the readings from a run's first tick to its last are the run
 pub kept_run : (early run late : List Reading) (s : Span) → Spanned s.from s.to run → Rising (early ++ (run ++ late)) → filter (inside s) (early ++ (run ++ late)) ≡ run
 kept_run early run late s p rise =
-    let before : All (λ r. inside s r ≡ false) early =
+    let before : AllByRecursion (λ r. inside s r ≡ false) early =
     All-weaker (λ (q : Reading). q.tick < run_first run) (λ (r : Reading). inside s r ≡ false)
     (λ r h. and_left (leb s.from r.tick) (leb r.tick s.to) (lt-leb s.from r.tick (omega (arith, p.first)))) early (below_first early run late p.some rise) in
-    let here : All (λ r. inside s r ≡ true) run =
+    let here : AllByRecursion (λ r. inside s r ≡ true) run =
     All-weaker (λ (r : Reading). (s.from ≤ r.tick) × (r.tick ≤ s.to)) (λ (r : Reading). inside s r ≡ true)
     (λ r h. and_from (leb s.from r.tick) (leb r.tick s.to) (le-leb s.from r.tick h.0) (le-leb r.tick s.to h.1)) run p.within in
-    let after : All (λ r. inside s r ≡ false) late =
+    let after : AllByRecursion (λ r. inside s r ≡ false) late =
     All-weaker (λ (q : Reading). run_last run < q.tick) (λ (r : Reading). inside s r ≡ false)
     (λ r h. and_right (leb s.from r.tick) (leb r.tick s.to) (lt-leb r.tick s.to (omega (arith, p.last)))) late (above_last run late p.some (rising_right early (run ++ late) rise)) in
     filter-append (inside s) early (run ++ late)

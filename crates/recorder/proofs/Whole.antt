@@ -1,7 +1,7 @@
 -- The law over all dealings.
 use Rattle.std.proofs.Common.{◌≡◌, ℕ, suc, ◌+◌, ◌<◌, ◌≤◌, Bool, true, false, cond, leb, ◌⊎◌, List, [], ◌∷◌, ◌++◌, map, length, drop, Ok, Err, filter, Option, Result, sym, refl, ap, ◌∙◌, subst, inl, inr, append_assoc, arith, length-append, le-leb, leb-true}
 use borrow.Author.Tests.{lt-leb}
-use Rattle.std.specs.List.{AllByRecursion as All}
+use Rattle.std.specs.List.{AllByRecursion}
 use Rattle.std.proofs.lemmas.List.{append-nil, map-append, length-map}
 use Rattle.std.proofs.ByRecursion.{All-weaker, All-append}
 use Rattle.std.proofs.lemmas.Bool.{cond-true, cond-false, cases_lt, and_from, and_left, and_right}
@@ -75,20 +75,20 @@ module _ {S : Type 0} (m : Meaning S) (laws : Laws m) where
   given_rest store n r p = (m.value (pick_in (record_at m.pick_width store p.0)) r.tick, ap (value_of m store r.tick) p.1, p.2)
 
   covers : m.value_width < 65535 → (log : List Event) (recs : List Rec) (done : List (List Reading)) (wd len pl n : ℕ) (s : S) (store : List ℕ) (q : Phase) → Base m log recs done wd len pl n store → Open m s log recs done q → n + running q ≤ pl →
-      All (Given store n s q) (readings log)
+      AllByRecursion (Given store n s q) (readings log)
   covers slim log recs done wd len pl n s store Fresh b fresh room = tt
   covers slim log recs done wd len pl n s store (Waiting l) b (waiting older _ _ _ g fb) room =
       let w = (tape_permitted (Fit m) g).whole in
-      subst (All (Given store n s (Waiting l))) w
+      subst (AllByRecursion (Given store n s (Waiting l))) w
       (All-weaker (Tells m laws (older ▹ mark) recs done wd len pl n store b m.pick_width n) (Given store n s (Waiting l)) (λ r p. given_rest store n r p) (joined done)
       (found m laws (older ▹ mark) recs done wd len pl n store b slim (omega arith) (subst Rising (sym w) b.rising)))
   covers slim log recs done wd len pl n s store (Running f l y) b (running_on older q _ _ run _ _ _ g k fb) room =
       let w : joined done ++ run ≡ readings (older ▹ read q) = sym (joined_push done run) ∙ (tape_permitted (Fit m) g).whole in
       let rise : Rising (joined done ++ run) = subst Rising (sym w) b.rising in
-      let before : All (λ q. q.tick < run_first run) (joined done) = below_first (joined done) run [] k.spans.some (subst (λ (l : List Reading). Rising (joined done ++ l)) (sym (append-nil run)) rise) in
+      let before : AllByRecursion (λ q. q.tick < run_first run) (joined done) = below_first (joined done) run [] k.spans.some (subst (λ (l : List Reading). Rising (joined done ++ l)) (sym (append-nil run)) rise) in
       let old = found m laws (older ▹ read q) recs done wd len pl n store b slim (omega arith) (rising_left (joined done) run rise) in
       let narrow : m.pick_width < 65535 = thin_picks m laws len pl b.places (omega arith) in
-      subst (All (Given store n s (Running f l y))) w
+      subst (AllByRecursion (Given store n s (Running f l y))) w
       (All-append (Given store n s (Running f l y)) (joined done) run
       (All-weaker (λ (r : Reading). (r.tick < run_first run) × Tells m laws (older ▹ read q) recs done wd len pl n store b m.pick_width n r) (Given store n s (Running f l y))
       (λ r p. let v = given_rest store n r p.1 in
@@ -112,7 +112,7 @@ module _ {S : Type 0} (m : Meaning S) (laws : Laws m) where
       ∙ ap (λ (o : Option Refusal). unless_refused o x) (row_tick_none m n t c d)
 
   pub covering_law : (log : List Event) (w : World S) → Inv m log w.tape w.state w.store →
-      All (λ (r : Reading). (row row' : List ℕ) (a : Result Unit Refusal) → right m.value_width (length row) ≡ true → Asked m w r.tick row a row' → Answers m r a row') (readings log)
+      AllByRecursion (λ (r : Reading). (row row' : List ℕ) (a : Result Unit Refusal) → right m.value_width (length row) ≡ true → Asked m w r.tick row a row' → Answers m r a row') (readings log)
   covering_law log w i =
       let v = w.tape in
       All-weaker (λ (r : Reading). (r.tick ≤ 268435455) × (m.value_width < 65535 → Given w.store v.written w.state v.phase r)) _
@@ -124,8 +124,8 @@ module _ {S : Type 0} (m : Meaning S) (laws : Laws m) where
       (readings log)
       (both (readings log) i.base.timely (λ slim. covers slim log i.recs i.done v.width v.length v.places v.written w.state w.store v.phase i.base i.phase i.room))
     where
-      both : (rs : List Reading) → All (λ r. r.tick ≤ 268435455) rs → (m.value_width < 65535 → All (Given w.store w.tape.written w.state w.tape.phase) rs) →
-          All (λ (r : Reading). (r.tick ≤ 268435455) × (m.value_width < 65535 → Given w.store w.tape.written w.state w.tape.phase r)) rs
+      both : (rs : List Reading) → AllByRecursion (λ r. r.tick ≤ 268435455) rs → (m.value_width < 65535 → AllByRecursion (Given w.store w.tape.written w.state w.tape.phase) rs) →
+          AllByRecursion (λ (r : Reading). (r.tick ≤ 268435455) × (m.value_width < 65535 → Given w.store w.tape.written w.state w.tape.phase r)) rs
       both [] h k = tt
       both (r ∷ rs) h k = ((h.0, λ slim. (k slim).0), both rs h.1 (λ slim. (k slim).1))
 
@@ -185,12 +185,12 @@ module _ {S : Type 0} (m : Meaning S) (laws : Laws m) where
       shut_now log i.recs i.done v.width v.length v.places v.written w.state w.store v.phase i.base i.phase i.room k store'
       (subst (λ (o : Outcome). Closes v o (Ok k)) is h.answer) (h.words ∙ ap (store_by v (m.words w.state) w.store) is)
 
-  pub kept_law : (log : List Event) (w : World S) → Inv m log w.tape w.state w.store → (k : ClosedTape) (s' : S) (store' : List ℕ) → Closed m w (Ok k) s' store' → All (Reads m laws store') (readings log)
+  pub kept_law : (log : List Event) (w : World S) → Inv m log w.tape w.state w.store → (k : ClosedTape) (s' : S) (store' : List ℕ) → Closed m w (Ok k) s' store' → AllByRecursion (Reads m laws store') (readings log)
   kept_law log w i k s' store' h =
       let t = shut log w i k s' store' h in
-      subst (All (Reads m laws store')) t.parted_in
+      subst (AllByRecursion (Reads m laws store')) t.parted_in
       (reader_covers m laws log t.recs t.done w.tape.width w.tape.length w.tape.places k.segments store' t.base t.room t.batched
-      (subst Rising (sym t.parted_in) t.base.rising) (subst (All (λ (r : Reading). r.tick ≤ 268435455)) (sym t.parted_in) t.base.timely))
+      (subst Rising (sym t.parted_in) t.base.rising) (subst (AllByRecursion (λ (r : Reading). r.tick ≤ 268435455)) (sym t.parted_in) t.base.timely))
 
   pub lawful_law : (log : List Event) (w : World S) → Inv m log w.tape w.state w.store → (k : ClosedTape) (s' : S) (store' : List ℕ) → Closed m w (Ok k) s' store' → 2 ≤ length w.store →
       LawfulTape m store' × (told_count store' ≡ k.segments)

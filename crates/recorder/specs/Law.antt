@@ -1,6 +1,6 @@
 -- What holds after any dealings with a tape, whatever the family: covering, fewest, and refusals exact.
 use Rattle.std.specs.Prelude.{◌≡◌, ℕ, zero, suc, ◌+◌, ◌<◌, ◌≤◌, Bool, true, false, cond, ◌⊎◌, List, [], ◌∷◌, ◌++◌, map, length, Some, None, Ok, Err, filter, Option, Result, nat_le}
-use Rattle.std.specs.List.{AllByRecursion as All}
+use Rattle.std.specs.List.{AllByRecursion}
 use Rattle.words.specs.declared.refusal.Reason.TheVariants.{BadTick, NothingToMark, NoSegment, WordsLength, NoPlace}
 use Rattle.words.specs.declared.refusal.Refusal.{Refusal}
 use Rattle.words.specs.Refusals.{refusal_of}
@@ -49,7 +49,7 @@ runs_in log segs = map (λ (s : Span). filter (inside s) (readings log)) segs
 
 -- no segment spans the tick
 abbrev pub Unspanned : ℕ → List Span → Type 0
-Unspanned t segs = All (λ (s : Span). (s.from ≤ t) × (t ≤ s.to) → ⊥) segs
+Unspanned t segs = AllByRecursion (λ (s : Span). (s.from ≤ t) × (t ≤ s.to) → ⊥) segs
 
 -- the tick is not above the last accepted one
 abbrev pub not_above : Option ℕ → ℕ → Bool
@@ -103,10 +103,10 @@ module _ {S : Type 0} (m : Meaning S) where
 
   pub record LawAt (log : List Event) (w : World S) : Type 0 where
     -- covering: asking at an accepted reading's tick, with a row of the right length, gives a value that meets its row
-    pub covering : All (λ (r : Reading). (row row' : List ℕ) (a : Result Unit Refusal) → right m.value_width (length row) ≡ true → Asked m w r.tick row a row' → Answers r a row') (readings log)
+    pub covering : AllByRecursion (λ (r : Reading). (row row' : List ℕ) (a : Result Unit Refusal) → right m.value_width (length row) ≡ true → Asked m w r.tick row a row' → Answers r a row') (readings log)
     -- and so does the reader after closing
     pub kept : (k : ClosedTape) (s' : S) (store' : List ℕ) → Closed m w (Ok k) s' store' →
-        All (λ (r : Reading). (row row' : List ℕ) (a : Result Unit Refusal) → right m.value_width (length row) ≡ true → ValueRead m store' r.tick row a row' → Answers r a row') (readings log)
+        AllByRecursion (λ (r : Reading). (row row' : List ℕ) (a : Result Unit Refusal) → right m.value_width (length row) ≡ true → ValueRead m store' r.tick row a row' → Answers r a row') (readings log)
     -- fewest: the segments are a permitted cutting, and no other has fewer runs
     pub permitted : Permitted Fit log (runs_in log (segments w))
     pub fewest : (cuts : List (List Reading)) → Permitted Fit log cuts → length (segments w) ≤ length cuts
