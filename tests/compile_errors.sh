@@ -1,17 +1,14 @@
 #!/usr/bin/env bash
 # Recording on a closed tape, and letting an open tape go, are refused by the compiler. They never reach the prover, so they
 # can't be must-fail edits: here a small program uses a tape as it should, and each misuse of it must be rejected with the
-# compiler's own error. The sources are read by the front end alone, so this takes seconds and needs nothing proved.
+# compiler's own error. `rt try` compiles the programs and proves nothing, in a folder of their own, so this takes a minute.
 set -euo pipefail
 root=$(cd "$(dirname "${BASH_SOURCE[0]}")/.." && pwd)
-kit=$(dirname "$(dirname "$(rt doc)")")
 box=$(mktemp -d)
 trap 'rm -rf "$box"' EXIT
 
 good='use level::Level;
-use level::LevelFamily;
-use recorder::ClosedTape;
-use recorder::OpenTape;
+use recorder::{ClosedTape, OpenTape};
 use words::Refusal;
 
 pub fn day(level: &mut Level, store: &mut [u32]) -> Result<ClosedTape, (OpenTape, Refusal)> {
@@ -23,14 +20,20 @@ pub fn day(level: &mut Level, store: &mut [u32]) -> Result<ClosedTape, (OpenTape
 
 fn main() {}'
 
-# Reads a program by the front end, with the libraries as sources, and prints its errors.
-front_end() {
-    mkdir -p "$box/$1/src"
-    printf '%s\n' "$2" > "$box/$1/src/main.rt"
-    local words=("$box/$1/src/main.rt" --crate-name client)
-    while IFS=: read -r name used; do words+=(--lib "$name:$(echo $used | tr ' ' ,)=$kit/$name/src/lib.rt"); done < "$kit/libs.txt"
-    for name in words family level cuttings layout reader recorder; do words+=(--lib "$name=$root/crates/$name/src/lib.rt"); done
-    "$kit/bin/rattle-print-mir" "${words[@]}" 2>&1 > /dev/null || true
+# A repository of the crates that the program uses, with the program as its crate `client`.
+used='words family level cuttings layout reader recorder'
+mkdir -p "$box/crates/client/src"
+for name in $used; do
+    mkdir -p "$box/crates/$name"
+    cp -r "$root/crates/$name/src" "$root/crates/$name/specs" "$box/crates/$name/"
+    grep "^$name:" "$root/crates.txt" >> "$box/crates.txt"
+done
+echo "client: recorder level family words" >> "$box/crates.txt"
+
+# Compiles a program, and prints what the compiler says.
+compiled() {
+    printf '%s\n' "$1" > "$box/crates/client/src/main.rt"
+    (cd "$box/crates/client" && rt try 2>&1) || true
 }
 
 # A misuse: its name, the line to replace, what to write there, and the error that it must meet.
@@ -38,7 +41,7 @@ rejected() {
     local text=${good/"$2"/"$3"}
     [ "$text" != "$good" ] || { echo "$1: the edit does not apply"; exit 1; }
     local said
-    said=$(front_end "$1" "$text")
+    said=$(compiled "$text")
     if ! grep -q "error\[$4\]" <<< "$said"; then
         printf '%s: expected error[%s], but the compiler said:\n%s\n' "$1" "$4" "$said"
         exit 1
@@ -46,8 +49,8 @@ rejected() {
     echo "$1: rejected by $4"
 }
 
-said=$(front_end proper "$good")
-if grep -q 'error' <<< "$said"; then
+said=$(compiled "$good")
+if ! grep -q '^run=ended status=0' <<< "$said"; then
     printf 'the proper use is rejected:\n%s\n' "$said"
     exit 1
 fi
