@@ -1,13 +1,13 @@
 #!/usr/bin/env python3
 """Gives the repository's own ghost names today's spelling, in every specs/, proofs/ and src/ below crates/.
 
-Run once, after the kit's port.py, at the top of the repository. A definition, field, lemma or constructor that the
-repository declares is written in snake case, a type or a fact in camel case: `band-wrong` becomes `band_wrong`, `gcdOf`
-becomes `gcd_of`, `Run-fits` becomes `RunFits`. What Rattle makes (goals and steps) and what its library declares keep
-their names, and so do functions, strings and comments of src/. `first_of` is the name of a tactic, so the
+Run once, after the kit's port.py, at the top of the repository. A definition, field, lemma or constructor that is declared
+at the margin of a file or up to four blanks in is written in snake case, a type or a fact in camel case: `band-wrong` becomes
+`band_wrong`, `gcdOf` becomes `gcd_of`, `Run-fits` becomes `RunFits`. What Rattle makes (goals and steps) and what its library
+declares keep their names, and so do functions, strings and comments of src/. `first_of` is the name of a tactic, so the
 definition of that name becomes `first_refusal`; the lemma `bit-and` becomes `bit_of_and`, as the library has a `bit_and`.
 
-It stops with a message where two names would fall together.
+It stops with a message where two such names would fall together. It does not look at the variants of enums in src/.
 """
 
 import collections

@@ -102,9 +102,9 @@ module _ (fits : List Reading → Type 0) where
       opens : (older : List Event) → log ▹ read q ≡ before ++ (mark ∷ older) → Open older
       opens older e = let d = ih older e in still_open older (split log (read q) before older e) d.early (ended d.late) d.both d.old d.new
 
-      side-joins : fits (run ▹ r) → Split (log ▹ read q) (read r) before after → Sides before after (done ▹ (run ▹ r))
-      side-joins s (here _ e _) = not_mark r e
-      side-joins s (past older e l) =
+      side_joins : fits (run ▹ r) → Split (log ▹ read q) (read r) before after → Sides before after (done ▹ (run ▹ r))
+      side_joins s (here _ e _) = not_mark r e
+      side_joins s (past older e l) =
           let o = opens older e in
           let n : after ≡ o.from ▹ read q ▹ read r = l ∙ ap (λ (x : List Event). x ▹ read r) o.named in
           record {
@@ -115,9 +115,9 @@ module _ (fits : List Reading → Type 0) where
             new = subst (λ (x : List Event). TapeRuns fits x (o.late ▹ (run ▹ r))) (sym n) (joins o.from q r o.late run o.new s);
           }
 
-      side-begins : ¬ fits (run ▹ r) → fits (r ∷ []) → Split (log ▹ read q) (read r) before after → Sides before after (done ▹ run ▹ (r ∷ []))
-      side-begins no-fit s (here _ e _) = not_mark r e
-      side-begins no-fit s (past older e l) =
+      side_begins : ¬ fits (run ▹ r) → fits (r ∷ []) → Split (log ▹ read q) (read r) before after → Sides before after (done ▹ run ▹ (r ∷ []))
+      side_begins no_fit s (here _ e _) = not_mark r e
+      side_begins no_fit s (past older e l) =
           let o = opens older e in
           let n : after ≡ o.from ▹ read q ▹ read r = l ∙ ap (λ (x : List Event). x ▹ read r) o.named in
           record {
@@ -125,7 +125,7 @@ module _ (fits : List Reading → Type 0) where
             late = o.late ▹ run ▹ (r ∷ []);
             both = ap (λ (x : List (List Reading)). x ▹ run ▹ (r ∷ [])) o.both ∙ ap (λ (x : List (List Reading)). x ▹ (r ∷ [])) (append_assoc o.early o.late (run ∷ [])) ∙ append_assoc o.early (o.late ▹ run) ((r ∷ []) ∷ []);
             old = o.old;
-            new = subst (λ (x : List Event). TapeRuns fits x (o.late ▹ run ▹ (r ∷ []))) (sym n) (begins o.from q r o.late run o.new no-fit s);
+            new = subst (λ (x : List Event). TapeRuns fits x (o.late ▹ run ▹ (r ∷ []))) (sym n) (begins o.from q r o.late run o.new no_fit s);
           }
 
   pub sides : {log : List Event} {runs : List (List Reading)} → TapeRuns fits log runs → (before after : List Event) → log ≡ before ++ (mark ∷ after) → Sides before after runs
@@ -137,8 +137,8 @@ module _ (fits : List Reading → Type 0) where
       only (here _ k _) = not_mark r k
       only (past older k _) = no_mark before older k
   sides (after_mark log runs r g s) before after e = side_after log runs r before after s (sides g before) (split (log ▹ mark) (read r) before after e)
-  sides (joins log q r done run g s) before after e = side-joins log q r done run before after (sides g before) s (split (log ▹ read q) (read r) before after e)
-  sides (begins log q r done run g n s) before after e = side-begins log q r done run before after (sides g before) n s (split (log ▹ read q) (read r) before after e)
+  sides (joins log q r done run g s) before after e = side_joins log q r done run before after (sides g before) s (split (log ▹ read q) (read r) before after e)
+  sides (begins log q r done run g n s) before after e = side_begins log q r done run before after (sides g before) n s (split (log ▹ read q) (read r) before after e)
 
   -- the tape's runs of what stands between two marks, which may hold marks
   pub record Own (before middle : List Event) (runs : List (List Reading)) : Type 0 where

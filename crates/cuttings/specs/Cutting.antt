@@ -1,5 +1,5 @@
 -- What parts a log of accepted readings and marks into runs: the permitted cuttings, and the tape's own.
--- AllByRecursion lists are oldest first.
+-- All lists are oldest first.
 use Rattle.std.specs.Prelude.{◌≡◌, ℕ, ◌<◌, ◌≤◌, ◌⊎◌, ◌↔◌, List, [], ◌∷◌, ◌++◌, map, length, take}
 use Rattle.std.specs.List.{AllByRecursion}
 use Rattle.family.specs.Readings.{Reading, ◌▹◌}
@@ -54,12 +54,12 @@ module _ (fits : List Reading → Type 0) where
     first : (r : Reading) → fits (r ∷ []) → TapeRuns (read r ∷ []) ((r ∷ []) ∷ [])
     after_mark : (log : List Event) (runs : List (List Reading)) (r : Reading) → TapeRuns (log ▹ mark) runs → fits (r ∷ []) →
         TapeRuns (log ▹ mark ▹ read r) (runs ▹ (r ∷ []))
-    joins : (log : List Event) (q r : Reading) (done : List (List Reading)) (open-run : List Reading) →
-        TapeRuns (log ▹ read q) (done ▹ open-run) → fits (open-run ▹ r) →
-        TapeRuns (log ▹ read q ▹ read r) (done ▹ (open-run ▹ r))
-    begins : (log : List Event) (q r : Reading) (done : List (List Reading)) (open-run : List Reading) →
-        TapeRuns (log ▹ read q) (done ▹ open-run) → ¬ fits (open-run ▹ r) → fits (r ∷ []) →
-        TapeRuns (log ▹ read q ▹ read r) (done ▹ open-run ▹ (r ∷ []))
+    joins : (log : List Event) (q r : Reading) (done : List (List Reading)) (open_run : List Reading) →
+        TapeRuns (log ▹ read q) (done ▹ open_run) → fits (open_run ▹ r) →
+        TapeRuns (log ▹ read q ▹ read r) (done ▹ (open_run ▹ r))
+    begins : (log : List Event) (q r : Reading) (done : List (List Reading)) (open_run : List Reading) →
+        TapeRuns (log ▹ read q) (done ▹ open_run) → ¬ fits (open_run ▹ r) → fits (r ∷ []) →
+        TapeRuns (log ▹ read q ▹ read r) (done ▹ open_run ▹ (r ∷ []))
 
   -- what holds of every tape's runs
   pub record BestCut : Type 0 where

@@ -2,7 +2,7 @@
 // through every band. Whole numbers throughout; nothing is rounded but a value, down.
 //
 // `line` is the state, with what its numbers keep; `state` takes readings in; `choose` picks; `pick` is a pick's four words, its
-// lawfulness and its values; `family` is the trait's calls over them. Slopes and hulls stand in crates of their own.
+// lawfulness and its values; `calls` is the trait's calls over them. Slopes and hulls stand in crates of their own.
 #![tactic(auto)]
 
 mod calls;

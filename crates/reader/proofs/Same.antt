@@ -55,12 +55,12 @@ module _ {S : Type 0} (m : Meaning S) (store : List ℕ) (t n : ℕ) where
   -- a lawful record that spans the tick says its value, where row and tick are right
   pub record_says : (ws : List ℕ) → row_tick_refusal m n t ≡ None → record_lawful m ws ≡ true → record_spans ws t ≡ true → record_value m ws t n ≡ Ok (m.value (pick_in ws) t)
   record_says ws asked lawful spanning =
-      let row-tick = first_none (refuse_unless (right m.value_width n) WordsLength) (refuse_unless (tick_in_range t) BadTick) asked in
+      let row_tick = first_none (refuse_unless (right m.value_width n) WordsLength) (refuse_unless (tick_in_range t) BadTick) asked in
       let pick = (and_parts (framed ws) _ lawful).1 in
       let parts = and_parts (right m.pick_width (length (pick_in ws))) (m.lawful (pick_in ws) (first_in ws) (last_in ws)) pick in
       let none : value_refusal m (pick_in ws) (first_in ws) (last_in ws) t n ≡ None =
       all_passed (right m.value_width n) (right m.pick_width (length (pick_in ws))) (tick_in_range t) (m.lawful (pick_in ws) (first_in ws) (last_in ws)) (record_spans ws t)
-      (unless_none _ WordsLength row-tick.0) parts.0 (unless_none _ BadTick row-tick.1) parts.1 spanning in
+      (unless_none _ WordsLength row_tick.0) parts.0 (unless_none _ BadTick row_tick.1) parts.1 spanning in
       ap (λ (o : Option Refusal). unless_refused o (Ok (m.value (pick_in ws) t))) none
 
   -- by whether record i spans the tick, with the answers of the records after it

@@ -22,7 +22,7 @@ use Rattle.recorder.specs.declared.step.Event.TheVariants.{Mark}
 use Rattle.recorder.specs.Phases.{running}
 use Rattle.recorder.specs.Steps.{View, Outcome, refused, begun, cut, outcome, outcome_of, opened_refusal, late_refusal, unless_due, answer_by, view_by, store_by, StateBy, opened_view}
 use Rattle.recorder.specs.Recording.{event_of, early_refusal, Began, By, RecordedBy}
-use Rattle.recorder.specs.Histories.{World, noted, parted, Opened, Marked, Dealt, opened as tape-opened, recorded, marked as tape-marked, asked_at}
+use Rattle.recorder.specs.Histories.{World, noted, parted, Opened, Marked, Dealt, opened as tape_opened, recorded, marked as tape_marked, asked_at}
 use Rattle.recorder.specs.Law.{Fit, not_above, batch_open, reading_refusal, HasNoPlace, RecordAnswer, MarkAnswer}
 use Rattle.recorder.proofs.Readies.{fresh_fits}
 use Rattle.recorder.proofs.Ticks.{run_last, last_is_run_last, accepted_push}
@@ -107,11 +107,11 @@ module _ {S : Type 0} (m : Meaning S) where
 
     module _ (log : List Event) (recs : List Rec) (done : List (List Reading)) (wd len pl n : ℕ) (s : S) (store : List ℕ) (b : Base m log recs done wd len pl n store)
         (r : Reading) (good : refusal m r ≡ None) (past : Past (last_tick (readings log)) r.tick) (v' : View) (s' : S) (store' : List ℕ) (a : Result ℕ Refusal) where
-      abbrev After-it : Type 0
-      After-it = Inv (noted log r a) v' s' store' × RecordAnswer m log r pl (v'.written + running v'.phase) None a
+      abbrev AfterIt : Type 0
+      AfterIt = Inv (noted log r a) v' s' store' × RecordAnswer m log r pl (v'.written + running v'.phase) None a
 
       -- refused for want of a place
-      no_place : (q : Phase) (o : Open s log recs done q) → n + running q ≤ pl → last_tick (readings log) ≡ clock_of q → By m (five wd len pl n q) s store r v' s' store' a (refused (refusal_of NoPlace)) → HasNoPlace m log r pl → After-it
+      no_place : (q : Phase) (o : Open s log recs done q) → n + running q ≤ pl → last_tick (readings log) ≡ clock_of q → By m (five wd len pl n q) s store r v' s' store' a (refused (refusal_of NoPlace)) → HasNoPlace m log r pl → AfterIt
       no_place q o room clock by none =
           subst (λ (x : Result ℕ Refusal). Inv (noted log r x) v' s' store' × RecordAnswer m log r pl (v'.written + running v'.phase) None x) (sym by.answer) (
             inv_same log (five wd len pl n q) v' s s' store store' by.tape by.state by.words
@@ -120,19 +120,19 @@ module _ {S : Type 0} (m : Meaning S) where
           )
 
       -- accepted
-      taken : (k : ℕ) (v : View) (st : List ℕ) → a ≡ Ok k → v' ≡ v → store' ≡ st → k ≡ v.written + running v.phase → (HasNoPlace m log r pl → ⊥) → Inv (log ▹ read r) v s' st → After-it
+      taken : (k : ℕ) (v : View) (st : List ℕ) → a ≡ Ok k → v' ≡ v → store' ≡ st → k ≡ v.written + running v.phase → (HasNoPlace m log r pl → ⊥) → Inv (log ▹ read r) v s' st → AfterIt
       taken k v st e tape words count more i =
           subst (λ (x : Result ℕ Refusal). Inv (noted log r x) v' s' store' × RecordAnswer m log r pl (v'.written + running v'.phase) None x) (sym e)
           (inv_same (log ▹ read r) v v' s' s' st store' tape refl words i, (count ∙ ap (λ (x : View). x.written + running x.phase) (sym tape), more))
 
-      now-clock : last_tick (readings (log ▹ read r)) ≡ Some r.tick
-      now-clock = ap last_tick (readings_read log r) ∙ accepted_push (readings log) r
+      now_clock : last_tick (readings (log ▹ read r)) ≡ Some r.tick
+      now_clock = ap last_tick (readings_read log r) ∙ accepted_push (readings log) r
 
-      one-run : Began m r s' → Took m s' r.tick r.tick (r ∷ [])
-      one-run z = took_one m z.start s' r z.clear good (fresh_fits m laws r good z.start z.clear) z.taken
+      one_run : Began m r s' → Took m s' r.tick r.tick (r ∷ [])
+      one_run z = took_one m z.start s' r z.clear good (fresh_fits m laws r good z.start z.clear) z.taken
 
-      count-done : n ≡ length recs → length done ≡ n
-      count-done e = go recs done b.holds ∙ sym e
+      count_done : n ≡ length recs → length done ≡ n
+      count_done e = go recs done b.holds ∙ sym e
         where
           go : (cs : List Rec) (runs : List (List Reading)) → Holds m cs runs → length runs ≡ length cs
           go [] [] h = refl
@@ -142,24 +142,24 @@ module _ {S : Type 0} (m : Meaning S) where
 
       -- a run begins on a tape that has none open
       begin : (q : Phase) (o : Open s log recs done q) → running q ≡ 0 → n + running q ≤ pl → last_tick (readings log) ≡ clock_of q → TapeRuns (Fit m) (log ▹ read r) (done ▹ (r ∷ [])) → Batched recs true →
-          (x : Bool) → ltb n pl ≡ x → By m (five wd len pl n q) s store r v' s' store' a (cond x (begun r.tick) (refused (refusal_of NoPlace))) → After-it
-      begin q o zero-open room clock g first_one true h by =
+          (x : Bool) → ltb n pl ≡ x → By m (five wd len pl n q) s store r v' s' store' a (cond x (begun r.tick) (refused (refusal_of NoPlace))) → AfterIt
+      begin q o zero_open room clock g first_one true h by =
           let k = ltb-true n pl h in
           let l = length_push done (r ∷ []) in
           taken (n + 1) (five wd len pl n (Running r.tick r.tick true)) store by.answer by.tape by.words refl
-          (placed log (done ▹ (r ∷ [])) r pl g (omega (arith, count-done b.count)))
+          (placed log (done ▹ (r ∷ [])) r pl g (omega (arith, count_done b.count)))
           (record {
             recs = recs;
             done = done;
             base = base_read m log recs done wd len pl n store r b good past;
             room = omega arith;
-            clock = now-clock;
-            phase = running_on log r recs done (r ∷ []) r.tick r.tick true g (one-run by.state) first_one;
+            clock = now_clock;
+            phase = running_on log r recs done (r ∷ []) r.tick r.tick true g (one_run by.state) first_one;
           })
-      begin q o zero-open room clock g first_one false h by =
+      begin q o zero_open room clock g first_one false h by =
           let k = ltb-false n pl h in
           let l = length_push done (r ∷ []) in
-          no_place q o room clock by ((tape_needs (Fit m) parts g pl).1 (omega (arith, count-done b.count)))
+          no_place q o room clock by ((tape_needs (Fit m) parts g pl).1 (omega (arith, count_done b.count)))
 
     -- the state's last tick is the run's
     last_taken : (s : S) (f l : ℕ) (run : List Reading) → Took m s f l run → m.last s ≡ Some l
@@ -207,13 +207,13 @@ module _ {S : Type 0} (m : Meaning S) where
         let past' : Past (last_tick (readings (older ▹ read q))) r.tick = subst (λ (o : Option ℕ). Past o r.tick) (sym clock) past in
         taken (older ▹ read q) recs done wd len pl n s store b r good past' v' s' store' a (n + 1) (five wd len pl n (Running f r.tick x)) store by.answer by.tape by.words refl
         (placed (older ▹ read q) (done ▹ (run ▹ r)) r pl grown
-        (omega (arith, length_push done (run ▹ r), count-done (older ▹ read q) recs done wd len pl n s store b r good past' v' s' store' a b.count)))
+        (omega (arith, length_push done (run ▹ r), count_done (older ▹ read q) recs done wd len pl n s store b r good past' v' s' store' a b.count)))
         (record {
           recs = recs;
           done = done;
           base = base_read m (older ▹ read q) recs done wd len pl n store r b good past';
           room = room;
-          clock = now-clock (older ▹ read q) recs done wd len pl n s store b r good past' v' s' store' a;
+          clock = now_clock (older ▹ read q) recs done wd len pl n s store b r good past' v' s' store' a;
           phase = running_on (older ▹ read q) r recs done (run ▹ r) f r.tick x grown (took_more m s s' f l run r k good fit by.state past) fb;
         })
     seen log recs done wd len pl n s store (Running f l x) b (running_on older q _ _ run _ _ _ g k fb) room clock r good past v' s' store' a false d by =
@@ -229,7 +229,7 @@ module _ {S : Type 0} (m : Meaning S) where
         past' = subst (λ (o : Option ℕ). Past o r.tick) (sym clock) past
 
         sized : length (done ▹ run ▹ (r ∷ [])) ≡ n + 2
-        sized = omega (arith, length_push (done ▹ run) (r ∷ []), length_push done run, count-done (older ▹ read q) recs done wd len pl n s store b r good past' v' s' store' a b.count)
+        sized = omega (arith, length_push (done ▹ run) (r ∷ []), length_push done run, count_done (older ▹ read q) recs done wd len pl n s store b r good past' v' s' store' a b.count)
 
         go : (y : Bool) → ltb (n + 1) pl ≡ y → By m (five wd len pl n (Running f l x)) s store r v' s' store' a (cond y (cut f l x r.tick) (refused (refusal_of NoPlace))) →
             Inv (noted (older ▹ read q) r a) v' s' store' × RecordAnswer m (older ▹ read q) r pl (v'.written + running v'.phase) None a
@@ -243,9 +243,9 @@ module _ {S : Type 0} (m : Meaning S) where
               done = done ▹ run;
               base = base_read m (older ▹ read q) (recs ▹ c) (done ▹ run) wd len pl (n + 1) _ r (base_write m laws (older ▹ read q) recs done wd len pl n store s f l x run b k room) good past';
               room = omega arith;
-              clock = now-clock (older ▹ read q) recs done wd len pl n s store b r good past' v' s' store' a;
+              clock = now_clock (older ▹ read q) recs done wd len pl n s store b r good past' v' s' store' a;
               phase = running_on (older ▹ read q) r (recs ▹ c) (done ▹ run) (r ∷ []) r.tick r.tick false grown
-                  (one-run (older ▹ read q) recs done wd len pl n s store b r good past' v' s' store' a by.state) (batched_push recs c false fb);
+                  (one_run (older ▹ read q) recs done wd len pl n s store b r good past' v' s' store' a by.state) (batched_push recs c false fb);
             })
         go false h by =
             let j = ltb-false (n + 1) pl h in
@@ -317,7 +317,7 @@ module _ {S : Type 0} (m : Meaning S) where
         (h.answer ∙ ap answer_by is) (h.tape ∙ ap (view_by v) is) (h.words ∙ ap (store_by v (m.words w.state) w.store) is) (subst (λ (o : Outcome). StateBy m w.state w'.state o) is h.state)
 
     pub dealt_inv : {log : List Event} {w : World S} → Dealt m log w → Inv log w.tape w.state w.store
-    dealt_inv (tape-opened w₀ w o) = opened_inv w₀ w o
+    dealt_inv (tape_opened w₀ w o) = opened_inv w₀ w o
     dealt_inv (recorded log w w' r a d h) = (record_inv log w.tape w.state w.store r w'.tape w'.state w'.store a (dealt_inv d) h).0
-    dealt_inv (tape-marked log w w' a d h) = (mark_inv log w w' a (dealt_inv d) h).0
+    dealt_inv (tape_marked log w w' a d h) = (mark_inv log w w' a (dealt_inv d) h).0
     dealt_inv (asked_at log w t row row' a d h) = dealt_inv d

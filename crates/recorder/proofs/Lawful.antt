@@ -20,7 +20,7 @@ use Rattle.layout.specs.Records.{find}
 use Rattle.reader.specs.Tapes.{told_count, tape_fault, records_fault, refuse_tape}
 use Rattle.reader.specs.Reads.{AnswersRow, unless_refused, row_tick_refusal, value_of, value_read, ValueRead}
 use Rattle.recorder.specs.Law.{written_spans, Answers}
-use Rattle.recorder.proofs.Records.{Rec, flat, skip_one, rec_span, Holds, find-all, spans-there, records-ok}
+use Rattle.recorder.proofs.Records.{Rec, flat, skip_one, rec_span, Holds, find_all, spans_there, records_ok}
 use Rattle.recorder.proofs.Base.{places_within, places_few, places_thin, Base}
 use Rattle.recorder.proofs.Invariant.{Batched}
 
@@ -84,7 +84,7 @@ module _ {S : Type 0} (m : Meaning S) (laws : Laws m) where
       where
         go : (cs : List Rec) (runs : List (List Reading)) → (0 < length cs → 0 < pl) → (0 < pl → drop (place_at m.pick_width 0) store ≡ flat cs ++ b.rest) → Holds m cs runs → written_spans m.pick_width store (length cs) 0 ≡ map rec_span cs
         go [] runs p e h = refl
-        go (c ∷ cs) runs p e h = let some = p (omega arith) in spans-there m laws (thin some) store (c ∷ cs) runs b.rest 0 (e some) h
+        go (c ∷ cs) runs p e h = let some = p (omega arith) in spans_there m laws (thin some) store (c ∷ cs) runs b.rest 0 (e some) h
 
     -- the search finds a record for each reading in the records
     abbrev pub Tells : ℕ → ℕ → Reading → Type 0
@@ -98,7 +98,7 @@ module _ {S : Type 0} (m : Meaning S) (laws : Laws m) where
         go : (cs : List Rec) (runs : List (List Reading)) → (0 < length cs → 0 < pl) → (0 < pl → drop (place_at m.pick_width 0) store ≡ flat cs ++ b.rest) → Holds m cs runs → Rising (joined runs) → AllByRecursion (Tells m.pick_width (length cs)) (joined runs)
         go [] [] p e h r = tt
         go [] (x ∷ runs) p e h r = absurd h
-        go (c ∷ cs) runs p e h r = let some = p (omega arith) in find-all m laws (thin some) slim store (c ∷ cs) runs b.rest 0 (e some) h r
+        go (c ∷ cs) runs p e h r = let some = p (omega arith) in find_all m laws (thin some) slim store (c ∷ cs) runs b.rest 0 (e some) h r
 
     -- COUNT's number
     pub told : n ≤ pl → 2 ≤ len → told_count store ≡ n
@@ -113,7 +113,7 @@ module _ {S : Type 0} (m : Meaning S) (laws : Laws m) where
         go : (cs : List Rec) (runs : List (List Reading)) → (0 < length cs → 0 < pl) → (0 < pl → drop (place_at m.pick_width 0) store ≡ flat cs ++ b.rest) → Holds m cs runs → Batched cs true → Rising (joined runs) →
             records_fault m m.pick_width store (length cs) 0 None ≡ None
         go [] runs p e h f r = refl
-        go (c ∷ cs) runs p e h f r = let some = p (omega arith) in records-ok m laws (thin some) store (c ∷ cs) runs b.rest 0 None (e some) h r f
+        go (c ∷ cs) runs p e h f r = let some = p (omega arith) in records_ok m laws (thin some) store (c ∷ cs) runs b.rest 0 None (e some) h r f
 
     -- nor with the store
     pub lawful_tape : n ≤ pl → 2 ≤ len → Batched recs true → Rising (joined done) → tape_fault m store ≡ None
@@ -121,12 +121,12 @@ module _ {S : Type 0} (m : Meaning S) (laws : Laws m) where
         let w : ℕ = m.pick_width in
         let is = b.shaped two in
         let few : n ≤ 1000000 = omega (arith, places_few w len, b.places) in
-        let zero-th : get_or store 0 0 ≡ tape_word w = ap (λ (l : List ℕ). get_or l 0 0) is in
-        let first-th : get_or store 1 0 ≡ count_word n = ap (λ (l : List ℕ). get_or l 1 0) is in
+        let zero_th : get_or store 0 0 ≡ tape_word w = ap (λ (l : List ℕ). get_or l 0 0) is in
+        let first_th : get_or store 1 0 ≡ count_word n = ap (λ (l : List ℕ). get_or l 1 0) is in
         let low = told le two in
         let pls : places_of w (length store) ≡ pl = ap (places_of w) b.long ∙ sym b.places in
-        cond-true _ _ _ (and_from _ _ (lt-ltb 0 (length store) (omega (arith, b.long))) (eq-eqb _ _ zero-th))
-        ∙ cond-true _ _ _ (and_from _ _ (lt-ltb 1 (length store) (omega (arith, b.long))) (and_from _ _ (eq-eqb _ (kind_number Count) (ap top_bits first-th ∙ count_kind n few)) (le-leb _ _ (omega (arith, low, pls)))))
+        cond-true _ _ _ (and_from _ _ (lt-ltb 0 (length store) (omega (arith, b.long))) (eq-eqb _ _ zero_th))
+        ∙ cond-true _ _ _ (and_from _ _ (lt-ltb 1 (length store) (omega (arith, b.long))) (and_from _ _ (eq-eqb _ (kind_number Count) (ap top_bits first_th ∙ count_kind n few)) (le-leb _ _ (omega (arith, low, pls)))))
         ∙ ap (λ (k : ℕ). records_fault m w store k 0 None) (low ∙ b.count)
         ∙ records_fine le first_one rise
 
@@ -142,12 +142,12 @@ module _ {S : Type 0} (m : Meaning S) (laws : Laws m) where
             let two = enough wd len pl b.wide b.places some in
             let f = p.1 (slim_row m (length row) e) in
             let v : List ℕ = m.value (pick_in (record_at w store f.0)) r.tick in
-            let read-it : value_read m store r.tick (length row) ≡ Ok v =
+            let read_it : value_read m store r.tick (length row) ≡ Ok v =
             ap (λ (o : Option Refusal). unless_refused (first_refusal o (refuse_tape (tape_fault m store))) (value_of m store r.tick (find m w store r.tick (told_count store) 0))) (row_tick_none m (length row) r.tick e p.0)
             ∙ ap (λ (o : Option ℕ). unless_refused (refuse_tape o) (value_of m store r.tick (find m w store r.tick (told_count store) 0))) (lawful_tape le two first_one rise)
             ∙ ap (λ (k : ℕ). value_of m store r.tick (find m w store r.tick k 0)) (told le two)
             ∙ ap (value_of m store r.tick) f.1 in
-            let (ok, is) = answers_ok (value_read m store r.tick (length row)) v a row row' read-it h' in
+            let (ok, is) = answers_ok (value_read m store r.tick (length row)) v a row row' read_it h' in
             (ok, subst (λ (x : List ℕ). m.meets x r.row) (sym is) f.2))
             (joined done) (both (joined done) timely (λ slim. found slim le rise))
           where

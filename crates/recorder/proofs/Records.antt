@@ -143,110 +143,110 @@ module _ {S : Type 0} (m : Meaning S) where
         (λ r h. laws.reads_back s r thin slim h.0 h.1) run (all_both _ _ run (ran_formed g) (picked_serves m laws g))
 
     module _ (c : Rec) (run : List Reading) (held : Held c run) where
-      held-long : length c.words ≡ m.pick_width
-      held-long = ap length held.picked ∙ laws.words_length held.state thin
+      held_long : length c.words ≡ m.pick_width
+      held_long = ap length held.picked ∙ laws.words_length held.state thin
 
-      held-lawful : m.lawful c.words c.first c.last ≡ true
-      held-lawful = ap (λ (x : List ℕ). m.lawful x c.first c.last) held.picked ∙ took_lawful held.state c.first c.last run held.took
+      held_lawful : m.lawful c.words c.first c.last ≡ true
+      held_lawful = ap (λ (x : List ℕ). m.lawful x c.first c.last) held.picked ∙ took_lawful held.state c.first c.last run held.took
 
       early : c.first ≤ 268435455
       early = omega (arith, held.took.timely, held.took.spans.ordered)
 
-      pub first-is : first_in (rec_words c) ≡ c.first
-      first-is = first_payload c.batch c.first early
+      pub first_is : first_in (rec_words c) ≡ c.first
+      first_is = first_payload c.batch c.first early
 
-      pub last-is : last_in (rec_words c) ≡ c.last
-      last-is = end_payload c.last held.took.timely
+      pub last_is : last_in (rec_words c) ≡ c.last
+      last_is = end_payload c.last held.took.timely
 
-      pub begins-batch : c.batch ≡ true → of_kind Batch (get_or (rec_words c) 0 0) ≡ true
-      begins-batch e = batch_kind c.batch c.first e early
+      pub begins_batch : c.batch ≡ true → of_kind Batch (get_or (rec_words c) 0 0) ≡ true
+      begins_batch e = batch_kind c.batch c.first e early
 
       -- its words are lawful by themselves
-      pub rec-lawful : record_lawful m (rec_words c) ≡ true
-      rec-lawful =
-          let order : leb (first_in (rec_words c)) (last_in (rec_words c)) ≡ true = le-leb _ _ (omega (arith, first-is, last-is, held.took.spans.ordered)) in
+      pub rec_lawful : record_lawful m (rec_words c) ≡ true
+      rec_lawful =
+          let order : leb (first_in (rec_words c)) (last_in (rec_words c)) ≡ true = le-leb _ _ (omega (arith, first_is, last_is, held.took.spans.ordered)) in
           and_from _ _
           (and_from _ _ (and_from _ _ (first_kinds c.batch c.first early) (end_kind c.last held.took.timely)) order)
-          (and_from _ _ (and_from _ _ (lt-ltb m.pick_width 65535 thin) (eq-eqb (length c.words) m.pick_width held-long))
-          (ap (λ (x : ℕ). m.lawful c.words x (last_in (rec_words c))) first-is ∙ ap (λ (x : ℕ). m.lawful c.words c.first x) last-is ∙ held-lawful))
+          (and_from _ _ (and_from _ _ (lt-ltb m.pick_width 65535 thin) (eq-eqb (length c.words) m.pick_width held_long))
+          (ap (λ (x : ℕ). m.lawful c.words x (last_in (rec_words c))) first_is ∙ ap (λ (x : ℕ). m.lawful c.words c.first x) last_is ∙ held_lawful))
 
       words_long : length (rec_words c) ≡ m.pick_width + 2
-      words_long = omega (arith, held-long)
+      words_long = omega (arith, held_long)
 
       -- it stands in the store
       module _ (store more : List ℕ) (i : ℕ) (there : drop (place_at m.pick_width i) store ≡ rec_words c ++ more) where
-        pub words-there : record_at m.pick_width store i ≡ rec_words c
-        words-there = ap (take (m.pick_width + 2)) there ∙ take_at (rec_words c) more (m.pick_width + 2) words_long
+        pub words_there : record_at m.pick_width store i ≡ rec_words c
+        words_there = ap (take (m.pick_width + 2)) there ∙ take_at (rec_words c) more (m.pick_width + 2) words_long
 
-        pub next-there : drop (place_at m.pick_width (i + 1)) store ≡ more
-        next-there =
+        pub next_there : drop (place_at m.pick_width (i + 1)) store ≡ more
+        next_there =
             let w : ℕ = m.pick_width in
             let e : place_at w (i + 1) ≡ place_at w i + (w + 2) = omega (arith, add-mul i 1 (w + 2)) in
             ap (λ (k : ℕ). drop k store) e ∙ sym (drop-drop (w + 2) (place_at w i) store) ∙ ap (drop (w + 2)) there ∙ drop_at (rec_words c) more (w + 2) words_long
 
         -- what the search makes of it
-        pub find-one : (t k : ℕ) → find m m.pick_width store t (suc k) i ≡ cond (spans c.first c.last t) (Ok i) (find m m.pick_width store t k (i + 1))
-        find-one t k =
+        pub find_one : (t k : ℕ) → find m m.pick_width store t (suc k) i ≡ cond (spans c.first c.last t) (Ok i) (find m m.pick_width store t k (i + 1))
+        find_one t k =
             let less : suc k - 1 ≡ k = omega arith in
             let w : ℕ = m.pick_width in
-            find_record m w store t (suc k) i (rec_words c) true (record_spans (rec_words c) t) (omega arith) (sym words-there) (sym rec-lawful) refl
-            ∙ ap (λ (f : ℕ). cond (spans f (last_in (rec_words c)) t) (Ok i) (find m w store t (suc k - 1) (i + 1))) first-is
-            ∙ ap (λ (l : ℕ). cond (spans c.first l t) (Ok i) (find m w store t (suc k - 1) (i + 1))) last-is
+            find_record m w store t (suc k) i (rec_words c) true (record_spans (rec_words c) t) (omega arith) (sym words_there) (sym rec_lawful) refl
+            ∙ ap (λ (f : ℕ). cond (spans f (last_in (rec_words c)) t) (Ok i) (find m w store t (suc k - 1) (i + 1))) first_is
+            ∙ ap (λ (l : ℕ). cond (spans c.first l t) (Ok i) (find m w store t (suc k - 1) (i + 1))) last_is
             ∙ ap (λ (j : ℕ). cond (spans c.first c.last t) (Ok i) (find m w store t j (i + 1))) less
 
-        pub find-here : (t k : ℕ) → c.first ≤ t → t ≤ c.last → find m m.pick_width store t (suc k) i ≡ Ok i
-        find-here t k a b = find-one t k ∙ cond-true _ _ _ (and_from _ _ (le-leb c.first t a) (le-leb t c.last b))
+        pub find_here : (t k : ℕ) → c.first ≤ t → t ≤ c.last → find m m.pick_width store t (suc k) i ≡ Ok i
+        find_here t k a b = find_one t k ∙ cond-true _ _ _ (and_from _ _ (le-leb c.first t a) (le-leb t c.last b))
 
         pub find_past : (t k : ℕ) → c.last < t → find m m.pick_width store t (suc k) i ≡ find m m.pick_width store t k (i + 1)
-        find_past t k a = find-one t k ∙ cond-false _ _ _ (and_right _ _ (lt-leb t c.last a))
+        find_past t k a = find_one t k ∙ cond-false _ _ _ (and_right _ _ (lt-leb t c.last a))
 
-        pub find-before : (t k : ℕ) → t < c.first → find m m.pick_width store t (suc k) i ≡ find m m.pick_width store t k (i + 1)
-        find-before t k a = find-one t k ∙ cond-false _ _ _ (and_left _ _ (lt-leb c.first t a))
+        pub find_before : (t k : ℕ) → t < c.first → find m m.pick_width store t (suc k) i ≡ find m m.pick_width store t k (i + 1)
+        find_before t k a = find_one t k ∙ cond-false _ _ _ (and_left _ _ (lt-leb c.first t a))
 
         -- the pick that stands there
-        pub pick-there : pick_in (record_at m.pick_width store i) ≡ c.words
-        pick-there = ap pick_in words-there
+        pub pick_there : pick_in (record_at m.pick_width store i) ≡ c.words
+        pick_there = ap pick_in words_there
 
     module _ (slim : m.value_width < 65535) (store : List ℕ) where
       -- the search finds a record whose value meets the reading's row
-      abbrev pub Found-for : ℕ → ℕ → Reading → Type 0
-      Found-for k i r = (j : ℕ) × (find m m.pick_width store r.tick k i ≡ Ok j) × m.meets (m.value (pick_in (record_at m.pick_width store j)) r.tick) r.row
+      abbrev pub FoundFor : ℕ → ℕ → Reading → Type 0
+      FoundFor k i r = (j : ℕ) × (find m m.pick_width store r.tick k i ≡ Ok j) × m.meets (m.value (pick_in (record_at m.pick_width store j)) r.tick) r.row
 
-      pub find-all : (cs : List Rec) (runs : List (List Reading)) (rest : List ℕ) (i : ℕ) → drop (place_at m.pick_width i) store ≡ flat cs ++ rest → Holds cs runs → Rising (joined runs) →
-          AllByRecursion (Found-for (length cs) i) (joined runs)
-      find-all [] [] rest i e h rise = tt
-      find-all [] (x ∷ runs) rest i e h rise = absurd h
-      find-all (c ∷ cs) [] rest i e h rise = absurd h
-      find-all (c ∷ cs) (run ∷ runs) rest i e h rise =
+      pub find_all : (cs : List Rec) (runs : List (List Reading)) (rest : List ℕ) (i : ℕ) → drop (place_at m.pick_width i) store ≡ flat cs ++ rest → Holds cs runs → Rising (joined runs) →
+          AllByRecursion (FoundFor (length cs) i) (joined runs)
+      find_all [] [] rest i e h rise = tt
+      find_all [] (x ∷ runs) rest i e h rise = absurd h
+      find_all (c ∷ cs) [] rest i e h rise = absurd h
+      find_all (c ∷ cs) (run ∷ runs) rest i e h rise =
           let held = h.0 in
           let there : drop (place_at m.pick_width i) store ≡ rec_words c ++ (flat cs ++ rest) = e ∙ append_assoc (rec_words c) (flat cs) rest in
-          let pick = pick-there c run held store (flat cs ++ rest) i there in
+          let pick = pick_there c run held store (flat cs ++ rest) i there in
           let meet : AllByRecursion (λ r. m.meets (m.value (pick_in (record_at m.pick_width store i)) r.tick) r.row) run =
           subst (λ (ws : List ℕ). AllByRecursion (λ r. m.meets (m.value ws r.tick) r.row) run) (sym (pick ∙ held.picked)) (took_meets slim held.state run held.took.ran) in
-          let later = find-all cs runs rest (i + 1) (next-there c run held store (flat cs ++ rest) i there) h.1 (rising_right run (joined runs) rise) in
+          let later = find_all cs runs rest (i + 1) (next_there c run held store (flat cs ++ rest) i there) h.1 (rising_right run (joined runs) rise) in
           let above = above_last run (joined runs) held.took.spans.some rise in
-          All-append (Found-for (suc (length cs)) i) run (joined runs)
-          (All-weaker (λ (r : Reading). ((c.first ≤ r.tick) × (r.tick ≤ c.last)) × m.meets (m.value (pick_in (record_at m.pick_width store i)) r.tick) r.row) (Found-for (suc (length cs)) i)
-          (λ r p. (i, find-here c run held store (flat cs ++ rest) i there r.tick (length cs) p.0.0 p.0.1, p.1)) run
+          All-append (FoundFor (suc (length cs)) i) run (joined runs)
+          (All-weaker (λ (r : Reading). ((c.first ≤ r.tick) × (r.tick ≤ c.last)) × m.meets (m.value (pick_in (record_at m.pick_width store i)) r.tick) r.row) (FoundFor (suc (length cs)) i)
+          (λ r p. (i, find_here c run held store (flat cs ++ rest) i there r.tick (length cs) p.0.0 p.0.1, p.1)) run
           (all_both _ _ run held.took.spans.within meet))
-          (All-weaker (λ (r : Reading). (run_last run < r.tick) × Found-for (length cs) (i + 1) r) (Found-for (suc (length cs)) i)
+          (All-weaker (λ (r : Reading). (run_last run < r.tick) × FoundFor (length cs) (i + 1) r) (FoundFor (suc (length cs)) i)
           (λ r p. (p.1.0, find_past c run held store (flat cs ++ rest) i there r.tick (length cs) (omega (arith, held.took.spans.last, p.0)) ∙ p.1.1, p.1.2)) (joined runs)
           (all_both _ _ (joined runs) above later))
 
     module _ (store : List ℕ) where
       -- the spans that the records tell
-      pub spans-there : (cs : List Rec) (runs : List (List Reading)) (rest : List ℕ) (i : ℕ) → drop (place_at m.pick_width i) store ≡ flat cs ++ rest → Holds cs runs →
+      pub spans_there : (cs : List Rec) (runs : List (List Reading)) (rest : List ℕ) (i : ℕ) → drop (place_at m.pick_width i) store ≡ flat cs ++ rest → Holds cs runs →
           written_spans m.pick_width store (length cs) i ≡ map rec_span cs
-      spans-there [] [] rest i e h = refl
-      spans-there [] (x ∷ runs) rest i e h = absurd h
-      spans-there (c ∷ cs) [] rest i e h = absurd h
-      spans-there (c ∷ cs) (run ∷ runs) rest i e h =
+      spans_there [] [] rest i e h = refl
+      spans_there [] (x ∷ runs) rest i e h = absurd h
+      spans_there (c ∷ cs) [] rest i e h = absurd h
+      spans_there (c ∷ cs) (run ∷ runs) rest i e h =
           let held = h.0 in
           let there : drop (place_at m.pick_width i) store ≡ rec_words c ++ (flat cs ++ rest) = e ∙ append_assoc (rec_words c) (flat cs) rest in
-          let tail = spans-there cs runs rest (i + 1) (next-there c run held store (flat cs ++ rest) i there) h.1 in
-          ap (λ (ws : List ℕ). span (first_in ws) (last_in ws) ∷ written_spans m.pick_width store (length cs) (i + 1)) (words-there c run held store (flat cs ++ rest) i there)
-          ∙ ap (λ (f : ℕ). span f (last_in (rec_words c)) ∷ written_spans m.pick_width store (length cs) (i + 1)) (first-is c run held)
-          ∙ ap (λ (l : ℕ). span c.first l ∷ written_spans m.pick_width store (length cs) (i + 1)) (last-is c run held)
+          let tail = spans_there cs runs rest (i + 1) (next_there c run held store (flat cs ++ rest) i there) h.1 in
+          ap (λ (ws : List ℕ). span (first_in ws) (last_in ws) ∷ written_spans m.pick_width store (length cs) (i + 1)) (words_there c run held store (flat cs ++ rest) i there)
+          ∙ ap (λ (f : ℕ). span f (last_in (rec_words c)) ∷ written_spans m.pick_width store (length cs) (i + 1)) (first_is c run held)
+          ∙ ap (λ (l : ℕ). span c.first l ∷ written_spans m.pick_width store (length cs) (i + 1)) (last_is c run held)
           ∙ ap (λ (x : List Span). span c.first c.last ∷ x) tail
 
       -- where the first record must begin with BATCH, it does
@@ -255,25 +255,25 @@ module _ {S : Type 0} (m : Meaning S) where
       Starts None (c ∷ cs) runs = c.batch ≡ true
       Starts (Some l) cs runs = AllByRecursion (λ (r : Reading). l < r.tick) (joined runs)
 
-      first-follows : (before : Option ℕ) (c : Rec) (cs : List Rec) (run : List Reading) (runs : List (List Reading)) → Held c run → Starts before (c ∷ cs) (run ∷ runs) → follows before (rec_words c) ≡ true
-      first-follows None c cs run runs held h = begins-batch c run held h
-      first-follows (Some l) c cs [] runs held h = absurd (omega (arith, held.took.spans.some))
-      first-follows (Some l) c cs (r ∷ run) runs held h = lt-ltb l _ (omega (arith, first-is c (r ∷ run) held, held.took.spans.first, h.0))
+      first_follows : (before : Option ℕ) (c : Rec) (cs : List Rec) (run : List Reading) (runs : List (List Reading)) → Held c run → Starts before (c ∷ cs) (run ∷ runs) → follows before (rec_words c) ≡ true
+      first_follows None c cs run runs held h = begins_batch c run held h
+      first_follows (Some l) c cs [] runs held h = absurd (omega (arith, held.took.spans.some))
+      first_follows (Some l) c cs (r ∷ run) runs held h = lt-ltb l _ (omega (arith, first_is c (r ∷ run) held, held.took.spans.first, h.0))
 
       -- the reader finds no fault with them
-      pub records-ok : (cs : List Rec) (runs : List (List Reading)) (rest : List ℕ) (i : ℕ) (before : Option ℕ) → drop (place_at m.pick_width i) store ≡ flat cs ++ rest → Holds cs runs → Rising (joined runs) → Starts before cs runs →
+      pub records_ok : (cs : List Rec) (runs : List (List Reading)) (rest : List ℕ) (i : ℕ) (before : Option ℕ) → drop (place_at m.pick_width i) store ≡ flat cs ++ rest → Holds cs runs → Rising (joined runs) → Starts before cs runs →
           records_fault m m.pick_width store (length cs) i before ≡ None
-      records-ok [] [] rest i before e h rise st = refl
-      records-ok [] (x ∷ runs) rest i before e h rise st = absurd h
-      records-ok (c ∷ cs) [] rest i before e h rise st = absurd h
-      records-ok (c ∷ cs) (run ∷ runs) rest i before e h rise st =
+      records_ok [] [] rest i before e h rise st = refl
+      records_ok [] (x ∷ runs) rest i before e h rise st = absurd h
+      records_ok (c ∷ cs) [] rest i before e h rise st = absurd h
+      records_ok (c ∷ cs) (run ∷ runs) rest i before e h rise st =
           let w : ℕ = m.pick_width in
           let held = h.0 in
           let there : drop (place_at m.pick_width i) store ≡ rec_words c ++ (flat cs ++ rest) = e ∙ append_assoc (rec_words c) (flat cs) rest in
           let above : AllByRecursion (λ (r : Reading). c.last < r.tick) (joined runs) =
           All-weaker (λ (r : Reading). run_last run < r.tick) (λ (r : Reading). c.last < r.tick) (λ r p. omega (arith, held.took.spans.last)) (joined runs) (above_last run (joined runs) held.took.spans.some rise) in
-          let tail = records-ok cs runs rest (i + 1) (Some c.last) (next-there c run held store (flat cs ++ rest) i there) h.1 (rising_right run (joined runs) rise) above in
-          ap (λ (ws : List ℕ). cond (follows before ws && record_lawful m ws) (records_fault m w store (length cs) (i + 1) (Some (last_in ws))) (Some (place_at w i))) (words-there c run held store (flat cs ++ rest) i there)
-          ∙ cond-true _ _ _ (and_from _ _ (first-follows before c cs run runs held st) (rec-lawful c run held))
-          ∙ ap (λ (l : ℕ). records_fault m w store (length cs) (i + 1) (Some l)) (last-is c run held)
+          let tail = records_ok cs runs rest (i + 1) (Some c.last) (next_there c run held store (flat cs ++ rest) i there) h.1 (rising_right run (joined runs) rise) above in
+          ap (λ (ws : List ℕ). cond (follows before ws && record_lawful m ws) (records_fault m w store (length cs) (i + 1) (Some (last_in ws))) (Some (place_at w i))) (words_there c run held store (flat cs ++ rest) i there)
+          ∙ cond-true _ _ _ (and_from _ _ (first_follows before c cs run runs held st) (rec_lawful c run held))
+          ∙ ap (λ (l : ℕ). records_fault m w store (length cs) (i + 1) (Some l)) (last_is c run held)
           ∙ tail

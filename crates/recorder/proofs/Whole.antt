@@ -28,12 +28,12 @@ use Rattle.recorder.specs.declared.tape.Phase.TheVariants.{Fresh, Waiting, Runni
 use Rattle.recorder.specs.declared.tape.OpenTape.{OpenTape}
 use Rattle.recorder.specs.declared.tape.ClosedTape.{ClosedTape}
 use Rattle.recorder.specs.Phases.{running}
-use Rattle.recorder.specs.Steps.{View, Outcome, store_by, closing as closing-by, Closes}
+use Rattle.recorder.specs.Steps.{View, Outcome, store_by, closing as closing_by, Closes}
 use Rattle.recorder.specs.Asking.{asked, by_phase, records_value}
-use Rattle.recorder.specs.Histories.{World, noted, parted, Opened, Recorded, Marked, Asked, Closed, Dealt, opened as tape-opened, recorded, marked as tape-marked}
+use Rattle.recorder.specs.Histories.{World, noted, parted, Opened, Recorded, Marked, Asked, Closed, Dealt, opened as tape_opened, recorded, marked as tape_marked}
 use Rattle.recorder.specs.Law.{Span, span, written_spans, open_span, segments, inside, runs_in, Unspanned, Fit, reading_refusal, RecordAnswer, AskAnswer, Answers, LawAt, Law}
 use Rattle.recorder.proofs.Ticks.{run_first, Spans, spans_push, kept_runs, length_spans, all_both, rising_left, below_first}
-use Rattle.recorder.proofs.Records.{Rec, rec_words, flat, rec_span, Held, Holds, holds_spans, took_lawful, took_meets, next-there, find-here, find_past, find-before}
+use Rattle.recorder.proofs.Records.{Rec, rec_words, flat, rec_span, Held, Holds, holds_spans, took_lawful, took_meets, next_there, find_here, find_past, find_before}
 use Rattle.recorder.proofs.Lawful.{answers_ok, answers_err, row_tick_none, slim_row, thin_picks, there, thin, spans_are, Tells, found, told, lawful_tape, Reads, reader_covers}
 use Rattle.recorder.proofs.Base.{Base, base_write, written_rec}
 use Rattle.recorder.proofs.Invariant.{five, Batched, Open, fresh, waiting, running_on, Inv, record_inv, mark_inv, dealt_inv, same_store, as_it_was, batched_push}
@@ -143,7 +143,7 @@ module _ {S : Type 0} (m : Meaning S) (laws : Laws m) where
   shut_as log wd len pl n n' store store' spans a b h = subst (λ (k : ℕ). Shut log wd len pl k store' spans) (sym a) (subst (λ (x : List ℕ). Shut log wd len pl n x spans) (sym b) h)
 
   shut_now : (log : List Event) (recs : List Rec) (done : List (List Reading)) (wd len pl n : ℕ) (s : S) (store : List ℕ) (q : Phase) → Base m log recs done wd len pl n store → Open m s log recs done q → n + running q ≤ pl →
-      (k : ClosedTape) (store' : List ℕ) → Closes (five wd len pl n q) (closing-by q) (Ok k) → store' ≡ store_by (five wd len pl n q) (m.words s) store (closing-by q) →
+      (k : ClosedTape) (store' : List ℕ) → Closes (five wd len pl n q) (closing_by q) (Ok k) → store' ≡ store_by (five wd len pl n q) (m.words s) store (closing_by q) →
       Shut log wd len pl k.segments store' (written_spans wd store n 0 ++ open_span q)
   shut_now log recs done wd len pl n s store Fresh b fresh room k store' e ws =
       shut_as [] wd len pl n k.segments store store' _ e ws (record {
@@ -181,7 +181,7 @@ module _ {S : Type 0} (m : Meaning S) (laws : Laws m) where
       Shut log w.tape.width w.tape.length w.tape.places k.segments store' (segments w)
   shut log w i k s' store' h =
       let v = w.tape in
-      let is = as_it_was m laws v w.store (closing-by v.phase) i.base.wide i.base.long in
+      let is = as_it_was m laws v w.store (closing_by v.phase) i.base.wide i.base.long in
       shut_now log i.recs i.done v.width v.length v.places v.written w.state w.store v.phase i.base i.phase i.room k store'
       (subst (λ (o : Outcome). Closes v o (Ok k)) is h.answer) (h.words ∙ ap (store_by v (m.words w.state) w.store) is)
 
@@ -236,7 +236,7 @@ module _ {S : Type 0} (m : Meaning S) (laws : Laws m) where
   find_either narrow store t [] runs rest i e h = inl (refl, tt)
   find_either narrow store t (c ∷ cs) [] rest i e h = absurd h
   find_either narrow store t (c ∷ cs) (run ∷ runs) rest i e h =
-      go (find_either narrow store t cs runs rest (i + 1) (next-there m laws narrow c run h.0 store (flat cs ++ rest) i (e ∙ append_assoc (rec_words c) (flat cs) rest)) h.1) (cases_lt c.last t) (cases_lt t c.first)
+      go (find_either narrow store t cs runs rest (i + 1) (next_there m laws narrow c run h.0 store (flat cs ++ rest) i (e ∙ append_assoc (rec_words c) (flat cs) rest)) h.1) (cases_lt c.last t) (cases_lt t c.first)
     where
       held : Held m c run
       held = h.0
@@ -251,8 +251,8 @@ module _ {S : Type 0} (m : Meaning S) (laws : Laws m) where
 
       go : FoundOrNot t (map rec_span cs) (find m m.pick_width store t (length cs) (i + 1)) → (c.last < t) ⊎ (t ≤ c.last) → (t < c.first) ⊎ (c.first ≤ t) → FoundOrNot t (rec_span c ∷ map rec_span cs) (find m m.pick_width store t (suc (length cs)) i)
       go later (inl a) b = past (λ p. let z = p.1 in omega arith) (find_past m laws narrow c run held store (flat cs ++ rest) i at t (length cs) a) later
-      go later (inr a) (inl b) = past (λ p. let z = p.0 in omega arith) (find-before m laws narrow c run held store (flat cs ++ rest) i at t (length cs) b) later
-      go later (inr a) (inr b) = inr (i, find-here m laws narrow c run held store (flat cs ++ rest) i at t (length cs) b a, λ u. u.0 (b, a))
+      go later (inr a) (inl b) = past (λ p. let z = p.0 in omega arith) (find_before m laws narrow c run held store (flat cs ++ rest) i at t (length cs) b) later
+      go later (inr a) (inr b) = inr (i, find_here m laws narrow c run held store (flat cs ++ rest) i at t (length cs) b a, λ u. u.0 (b, a))
 
   value_either : (store : List ℕ) (t : ℕ) (segs : List Span) (x : Result ℕ Refusal) → FoundOrNot t segs x → Either t segs (value_of m store t x)
   value_either store t segs x (inl p) = inl (ap (value_of m store t) p.0, p.1)
@@ -295,29 +295,29 @@ module _ {S : Type 0} (m : Meaning S) (laws : Laws m) where
       rest : Result (List ℕ) Refusal
       rest = by_phase m w.tape.phase w.state t (records_value m w.store w.tape.written t)
 
-      is-it : asked m w.tape w.state w.store t (length row) ≡ unless_refused (row_tick_refusal m (length row) t) rest
-      is-it = ap (λ (o : Option Refusal). unless_refused (first_refusal o (row_tick_refusal m (length row) t)) rest) (same_store m laws w.tape w.store i.base.wide i.base.long)
+      is_it : asked m w.tape w.state w.store t (length row) ≡ unless_refused (row_tick_refusal m (length row) t) rest
+      is_it = ap (λ (o : Option Refusal). unless_refused (first_refusal o (row_tick_refusal m (length row) t)) rest) (same_store m laws w.tape w.store i.base.wide i.base.long)
 
-      by-either : {x : Result (List ℕ) Refusal} → AnswersRow x row a row' → Either t (segments w) x → ((a ≡ Err (refusal_of NoSegment)) × Unspanned t (segments w)) ⊎ ((a ≡ Ok tt) × (Unspanned t (segments w) → ⊥))
-      by-either {x} k (inl p) = inl (answers_err x (refusal_of NoSegment) a row row' p.0 k, p.1)
-      by-either {x} k (inr p) = inr ((answers_ok x p.0 a row row' p.1 k).0, p.2)
+      by_either : {x : Result (List ℕ) Refusal} → AnswersRow x row a row' → Either t (segments w) x → ((a ≡ Err (refusal_of NoSegment)) × Unspanned t (segments w)) ⊎ ((a ≡ Ok tt) × (Unspanned t (segments w) → ⊥))
+      by_either {x} k (inl p) = inl (answers_err x (refusal_of NoSegment) a row row' p.0 k, p.1)
+      by_either {x} k (inr p) = inr ((answers_ok x p.0 a row row' p.1 k).0, p.2)
 
       go : (x y : Bool) → right m.value_width (length row) ≡ x → tick_in_range t ≡ y →
           cond x (cond y (((a ≡ Err (refusal_of NoSegment)) × Unspanned t (segments w)) ⊎ ((a ≡ Ok tt) × (Unspanned t (segments w) → ⊥))) (a ≡ Err (refusal_of BadTick))) (a ≡ Err (refusal_of WordsLength))
-      go false y e f = answers_err _ (refusal_of WordsLength) a row row' (is-it ∙ ap (λ (x : Bool). unless_refused (first_refusal (refuse_unless x WordsLength) (tick_refusal t)) rest) e) h
+      go false y e f = answers_err _ (refusal_of WordsLength) a row row' (is_it ∙ ap (λ (x : Bool). unless_refused (first_refusal (refuse_unless x WordsLength) (tick_refusal t)) rest) e) h
       go true false e f = answers_err _ (refusal_of BadTick) a row row'
-          (is-it ∙ ap (λ (x : Bool). unless_refused (first_refusal (refuse_unless x WordsLength) (tick_refusal t)) rest) e ∙ ap (λ (y : Bool). unless_refused (refuse_unless y BadTick) rest) f) h
+          (is_it ∙ ap (λ (x : Bool). unless_refused (first_refusal (refuse_unless x WordsLength) (tick_refusal t)) rest) e ∙ ap (λ (y : Bool). unless_refused (refuse_unless y BadTick) rest) f) h
       go true true e f =
           let low : t ≤ 268435455 = leb-true t 268435455 f in
           let told = spans_are m laws log i.recs i.done w.tape.width w.tape.length w.tape.places w.tape.written w.store i.base (omega (arith, i.room)) in
-          let rec-either = records_either log i.recs i.done w.tape.width w.tape.length w.tape.places w.tape.written w.store i.base (omega (arith, i.room)) t in
-          let All-either = phase_either log i.recs i.done w.tape.width w.tape.length w.tape.places w.tape.written w.state w.store w.tape.phase i.base i.phase i.room t (map rec_span i.recs) _ rec-either in
-          by-either {x = asked m w.tape w.state w.store t (length row)} h
+          let rec_either = records_either log i.recs i.done w.tape.width w.tape.length w.tape.places w.tape.written w.store i.base (omega (arith, i.room)) t in
+          let all_either = phase_either log i.recs i.done w.tape.width w.tape.length w.tape.places w.tape.written w.state w.store w.tape.phase i.base i.phase i.room t (map rec_span i.recs) _ rec_either in
+          by_either {x = asked m w.tape w.state w.store t (length row)} h
           (subst (λ (x : Result (List ℕ) Refusal). Either t (segments w) x) (sym (asked_is w.tape w.state w.store t (length row) i.base.wide i.base.long e low))
-          (subst (λ (y : List Span). Either t (y ++ open_span w.tape.phase) rest) (sym told) All-either))
+          (subst (λ (y : List Span). Either t (y ++ open_span w.tape.phase) rest) (sym told) all_either))
 
   -- closing is not refused
-  close_now : (v : View) (q : Phase) (a : Result ClosedTape (OpenTape × Refusal)) → Closes v (closing-by q) a → (k : ClosedTape) × (a ≡ Ok k)
+  close_now : (v : View) (q : Phase) (a : Result ClosedTape (OpenTape × Refusal)) → Closes v (closing_by q) a → (k : ClosedTape) × (a ≡ Ok k)
   close_now v Fresh (Ok k) h = (k, refl)
   close_now v Fresh (Err p) h = absurd h
   close_now v (Waiting l) (Ok k) h = (k, refl)
@@ -330,12 +330,12 @@ module _ {S : Type 0} (m : Meaning S) (laws : Laws m) where
       let v = w.tape in
       let all = whole log i.recs i.done v.width v.length v.places v.written w.state w.store v.phase i.base i.phase i.room in
       let good = tape_permitted (Fit m) all.tape in
-      let runs-are : runs_in log (segments w) ≡ all.runs =
+      let runs_are : runs_in log (segments w) ≡ all.runs =
       ap (λ (l : List Reading). map (λ (s : Span). filter (inside s) l) (segments w)) (sym good.whole) ∙ kept_runs [] (segments w) all.runs all.told (subst Rising (sym good.whole) i.base.rising) in
       record {
         covering = covering_law log w i;
         kept = kept_law log w i;
-        permitted = subst (Permitted (Fit m) log) (sym runs-are) good;
+        permitted = subst (Permitted (Fit m) log) (sym runs_are) good;
         fewest = λ cuts p. subst (λ (n : ℕ). n ≤ length cuts) (sym (length_spans (segments w) all.runs all.told)) (tape_fewest (Fit m) (part_served m.serves) all.tape cuts p);
         handed_on = handed_law log w i;
         lawful = lawful_law log w i;
@@ -345,7 +345,7 @@ module _ {S : Type 0} (m : Meaning S) (laws : Laws m) where
             (subst (λ (n : ℕ). RecordAnswer m log r v.places n (reading_refusal m log r) a) (sym (counted (noted log r a) w' j)) ans);
         marking = λ a w' h. (mark_inv m laws log w w' a i h).1;
         asking = asking_law log w i;
-        closing = λ a s' store' h. close_now v v.phase a (subst (λ (o : Outcome). Closes v o a) (as_it_was m laws v w.store (closing-by v.phase) i.base.wide i.base.long) h.answer);
+        closing = λ a s' store' h. close_now v v.phase a (subst (λ (o : Outcome). Closes v o a) (as_it_was m laws v w.store (closing_by v.phase) i.base.wide i.base.long) h.answer);
       }
 
   pub law : Law m
@@ -353,10 +353,10 @@ module _ {S : Type 0} (m : Meaning S) (laws : Laws m) where
 
   -- the law after a call, from the call's own relation
   pub after_opening : (before : List ℕ) {w : World S} → Opened m before w → LawAt m [] w
-  after_opening before {w} o = law [] w (tape-opened before w o)
+  after_opening before {w} o = law [] w (tape_opened before w o)
 
   pub after_marking : {w w' : World S} {a : Result Unit Refusal} → Marked m w a w' → (log : List Event) → Dealt m log w → LawAt m (parted log a) w'
-  after_marking {w} {w'} {a} h log d = law (parted log a) w' (tape-marked log w w' a d h)
+  after_marking {w} {w'} {a} h log d = law (parted log a) w' (tape_marked log w w' a d h)
 
   pub after_recording : (r : Reading) (a : Result ℕ Refusal) (w w' : World S) → Recorded m w r a w' → (log : List Event) → Dealt m log w → LawAt m (noted log r a) w'
   after_recording r a w w' h log d = law (noted log r a) w' (recorded log w w' r a d h)

@@ -13,8 +13,8 @@ first_is_not : (bs : List ℕ) → ((rest : List ℕ) → bs ≡ 45 ∷ rest →
 first_is_not [] h e = omega arith
 first_is_not (c ∷ cs) h e = h cs (ap (λ n. n ∷ cs) e)
 
-pub end-plain
+pub end_plain
     : (bs : List ℕ) → ((rest : List ℕ) → bs ≡ 45 ∷ rest → ⊥)
     → raised 2000000 (number_of bs 266435455) ≡ end_of bs
 unfolding end_of
-end-plain bs h = sym (cond-false _ _ _ (ne_eqb (get_or bs 0 0) 45 (first_is_not bs h)))
+end_plain bs h = sym (cond-false _ _ _ (ne_eqb (get_or bs 0 0) 45 (first_is_not bs h)))

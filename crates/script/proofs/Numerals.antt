@@ -20,31 +20,31 @@ pub none_digits : (bs : List ℕ) (most : ℕ) → all_ascii_digits bs ≡ false
 unfolding number_of
 none_digits bs most e = sym (cond-false _ _ _ (and_left (all_ascii_digits bs) _ e))
 
-pub Some-number
+pub some_number
     : (bs : List ℕ) (most n : ℕ) → all_ascii_digits bs ≡ true
     → ParsesUnsigned {E = Unit {0}} 32 10 bs (Ok n) → n ≤ most → Some n ≡ number_of bs most
 unfolding number_of
-Some-number bs most n d h le =
+some_number bs most n d h le =
     let q : ((0 < length bs) × (digits_value 10 bs < 2 ^ 32)) × (n ≡ digits_value 10 bs) = parse_digits own {E = Unit {0}} 32 bs (Ok n) h d in
     ap Some q.1
     ∙ sym (cond-true _ _ _ (and_from _ _ d (and_from _ _ (lt-ltb 0 _ q.0.0) (le-leb _ most (omega arith)))))
 
-pub none-large
+pub none_large
     : (bs : List ℕ) (most n : ℕ) → all_ascii_digits bs ≡ true
     → ParsesUnsigned {E = Unit {0}} 32 10 bs (Ok n) → most < n → None ≡ number_of bs most
 unfolding number_of
-none-large bs most n d h gt =
+none_large bs most n d h gt =
     let q : ((0 < length bs) × (digits_value 10 bs < 2 ^ 32)) × (n ≡ digits_value 10 bs) = parse_digits own {E = Unit {0}} 32 bs (Ok n) h d in
     none_unless (is_number bs most) _ (λ e.
     let p : (ltb 0 (length bs) && leb (digits_value 10 bs) most) ≡ true = (and_parts (all_ascii_digits bs) _ e).1 in
     let le : digits_value 10 bs ≤ most = leb-true _ most (and_parts (ltb 0 (length bs)) _ p).1 in
     omega arith)
 
-pub none-error
+pub none_error
     : (bs : List ℕ) (most : ℕ) → all_ascii_digits bs ≡ true
     → ParsesUnsigned {E = Unit {0}} 32 10 bs (Err (tt {0})) → most < 2 ^ 32 → None ≡ number_of bs most
 unfolding number_of
-none-error bs most d h fits =
+none_error bs most d h fits =
     let q : ((0 < length bs) × (digits_value 10 bs < 2 ^ 32)) → ⊥ = parse_digits own {E = Unit {0}} 32 bs (Err (tt {0})) h d in
     none_unless (is_number bs most) _ (λ e.
     let p : (ltb 0 (length bs) && leb (digits_value 10 bs) most) ≡ true = (and_parts (all_ascii_digits bs) _ e).1 in
@@ -83,10 +83,10 @@ some_word bs w len e h =
     ∙ sym (cond-true _ _ _ (and_from _ _ (eq-eqb _ 8 len) e))
 
 -- eight hexadecimal digits always write a word
-pub no-error
+pub no_error
     : (bs : List ℕ) → length bs ≡ 8 → all_hex bs ≡ true
     → ParsesUnsigned {E = Unit {0}} 32 16 bs (Err (tt {0})) → ⊥
-no-error bs len e h =
+no_error bs len e h =
     let a = without_leading_plus_none bs (no_plus bs e) in
     let d = hex_digits bs e in
     let v : digits_value 16 bs < 2 ^ 32 =

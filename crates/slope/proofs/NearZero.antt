@@ -40,7 +40,7 @@ abs_least a b r u ha hb h =
     let f = simp ring at e in
     simp ring (omega (arith, lins, m, g, f))
 
--- what `nearestOf` names is it
+-- what `nearest_of` names is it
 pub nearest_is : (p q : Slope) → Bound p → Bound q → Open p q → Nearest p q (nearest_of p q)
 nearest_is p q bp bq o =
     let two : (t : Bool) → lt_z (pos 0) q.0 ≡ t → lt_z (pos 0) p.0 ≡ false → Nearest p q (cond t (neg_ℤ q.0, q.1) (pos 0, pos 1))

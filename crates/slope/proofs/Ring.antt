@@ -8,8 +8,8 @@ use Rattle.std.proofs.lemmas.Int.{ints, by_lt_z}
 pub mul_add : (a b c : ℤ) → a *ℤ (b +ℤ c) ≡ a *ℤ b +ℤ a *ℤ c
 mul_add a b c = omega (arith, ints, ap (λ (n : ℕ). up a * n) (sum_is_lem b c), ap (λ (n : ℕ). down a * n) (sum_is_lem b c))
 
-pub add-mul : (a b c : ℤ) → (a +ℤ b) *ℤ c ≡ a *ℤ c +ℤ b *ℤ c
-add-mul a b c = *ℤ_comm (a +ℤ b) c ∙ mul_add c a b ∙ simp *ℤ_comm
+pub add_mul : (a b c : ℤ) → (a +ℤ b) *ℤ c ≡ a *ℤ c +ℤ b *ℤ c
+add_mul a b c = *ℤ_comm (a +ℤ b) c ∙ mul_add c a b ∙ simp *ℤ_comm
 
 up_product : (a b : ℤ) → up (a *ℤ b) ≡ up a * up b + down a * down b
 up_product a b = (product_is a b).0
@@ -35,11 +35,11 @@ mul_assoc a b c = same_in _ _ (simp (up_product, down_product) (omega arith))
 pub mul_left_comm : (a b c : ℤ) → a *ℤ (b *ℤ c) ≡ b *ℤ (a *ℤ c)
 mul_left_comm a b c = sym (mul_assoc a b c) ∙ ap (λ (x : ℤ). x *ℤ c) (*ℤ_comm a b) ∙ mul_assoc b a c
 
-pub mul-one : (a : ℤ) → a *ℤ pos 1 ≡ a
-mul-one a = omega (arith, ints)
+pub mul_one : (a : ℤ) → a *ℤ pos 1 ≡ a
+mul_one a = omega (arith, ints)
 
 -- products multiplied out and sorted
-pub ruleset ring = (mul-one, *ℤ-zero, zero-*ℤ, mul_add, add-mul, mul_neg, neg_mul, mul_assoc, *ℤ_comm, mul_left_comm)
+pub ruleset ring = (mul_one, *ℤ-zero, zero-*ℤ, mul_add, add_mul, mul_neg, neg_mul, mul_assoc, *ℤ_comm, mul_left_comm)
 
 -- `ints` with products as unknowns
 pub ruleset lins = (same_out, Apart-out, lt_T, le_T, lt_not, le_not, lt-true, lt-false, le-true, le-false, true-lt, false-lt, true-le, false-le, lt_out, le_out, same_in, lt_in, le_in, below_in, at_most_in, true_is_lt, false_is_lt, true_is_le, false_is_le, sum_is_lem, neg_is)

@@ -1,6 +1,6 @@
 use Rattle.std.proofs.Common.{sym, ap, ◌∙◌, arith}
 use Rattle.script.specs.Numbers.{all_hex}
-use Rattle.script.proofs.Numerals.{none_length, none_hex, some_word, no-error}
+use Rattle.script.proofs.Numerals.{none_length, none_hex, some_word, no_error}
 use Rattle.script.proofs.digits.word.Goals as goal
 
 pub returns-then-text-ne8 : goal.returns-then-text-ne8
@@ -17,5 +17,5 @@ returns-in-Ok c =
 
 pub returns-in-Err : goal.returns-in-Err
 returns-in-Err c =
-    absurd (no-error c.args.text.now (omega arith)
+    absurd (no_error c.args.text.now (omega arith)
     (sym (c.if-not-all_hex.ensures ∙ ap all_hex c.as_bytes.ensures.value)) c.in-Err.ensures.value)

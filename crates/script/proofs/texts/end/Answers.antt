@@ -1,7 +1,7 @@
 use Rattle.std.proofs.Common.{Some, None, ap, ◌∙◌, arith, lit<}
 use Rattle.std.proofs.lemmas.Str.Pattern.{strip_prefix_char}
 use Rattle.script.specs.Rows.{raised, taken_from}
-use Rattle.script.proofs.Ends.{end_minus, end-plain}
+use Rattle.script.proofs.Ends.{end_minus, end_plain}
 use Rattle.script.proofs.texts.end.Goals as goal
 
 pub returns-in-Some-number : goal.returns-in-Some-number
@@ -29,7 +29,7 @@ returns-in-Some-number-2 c =
     record {
       value =
           ap (raised 2000000) c.in-Some-number-2.ensures.value
-          ∙ end-plain c.args.text.now
+          ∙ end_plain c.args.text.now
           (strip_prefix_char 45 c.args.text.now None c.in-None.ensures.cases (lit< tt));
       bound = omega (arith, c.in-Some-number-2.ensures.bound);
     }
@@ -39,7 +39,7 @@ returns-in-None-number-2 c =
     record {
       value =
           ap (raised 2000000) c.in-None-number-2.ensures.value
-          ∙ end-plain c.args.text.now
+          ∙ end_plain c.args.text.now
           (strip_prefix_char 45 c.args.text.now None c.in-None.ensures.cases (lit< tt));
       bound = tt;
     }

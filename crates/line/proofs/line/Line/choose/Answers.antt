@@ -19,8 +19,8 @@ found s r p e f = f ∙ ap (λ (m : Slope). topmost m (ends s.lows)) e
 not_before : (s : Line) (p : Point) → 0 < s.lows.len → p ≡ line_anchor s → s.first ≤ p.tick
 not_before s p n e = subst (λ (q : Point). s.first ≤ q.tick) (sym e) (∥∥₁_elim s.sound le_prop (λ x. anchor_from s n x))
 
-in_range-through : (s : Line) (r : Slope) (p : Point) → 0 < s.lows.len → r ≡ line_slope s → p ≡ line_anchor s → Ranged (pick_through s.first r p)
-in_range-through s r p n e f = subst Ranged (sym (ap₂ (pick_through s.first) e f)) (anchored_ranged s n)
+in_range_through : (s : Line) (r : Slope) (p : Point) → 0 < s.lows.len → r ≡ line_slope s → p ≡ line_anchor s → Ranged (pick_through s.first r p)
+in_range_through s r p n e f = subst Ranged (sym (ap₂ (pick_through s.first) e f)) (anchored_ranged s n)
 
 pub overflow_sub-overs : goal.overflow_sub-overs
 overflow_sub-overs c = not_before c.args.self.now c.highest-anchor.result (omega arith) (found c.args.self.now c.slope-slope.result c.highest-anchor.result c.slope-slope.ensures.is c.highest-anchor.ensures)
@@ -43,7 +43,7 @@ overflow_cast-result c =
     let fh : SFits w32 p.height = search rules in
     let f0 : SFits w64 r.0 = search rules in
     let f1 : SFits w64 r.1 = search rules in
-    coded_height s.first r p c.height_before.result fh f0 f1 (in_range-through s r p (omega arith) c.slope-slope.ensures.is e) c.height_before.ensures
+    coded_height s.first r p c.height_before.result fh f0 f1 (in_range_through s r p (omega arith) c.slope-slope.ensures.is e) c.height_before.ensures
 
 pub returns-then-self-eq0 : goal.returns-then-self-eq0
 returns-then-self-eq0 c =
@@ -62,6 +62,6 @@ returns c =
     let fh : SFits w32 p.height = search rules in
     let f0 : SFits w64 r.0 = search rules in
     let f1 : SFits w64 r.1 = search rules in
-    let is = coded s.first r p c.height_before.result fh f0 f1 (in_range-through s r p n c.slope-slope.ensures.is e) c.height_before.ensures c.pivot.result c.pivot.ensures
+    let is = coded s.first r p c.height_before.result fh f0 f1 (in_range_through s r p n c.slope-slope.ensures.is e) c.height_before.ensures c.pivot.result c.pivot.ensures
     ∙ ap₂ (pick_through s.first) c.slope-slope.ensures.is e ∙ sym (pick_anchored s n) in
     record { is = is; held = ap numbers_hold is ∙ pick_held s; chosen = λ z. subst (Chosen s) (sym is) (chosen s n) }
