@@ -1,4 +1,5 @@
-ghost use Rattle.std.specs.Prelude.{◌<◌, pos, ◌≤ℤ◌};
+ghost use Rattle.std.specs.Int.{abs_diff};
+ghost use Rattle.std.specs.Prelude.{◌≡◌, ◌*◌, ◌<◌, pos, ◌≤ℤ◌};
 
 use std::alloc::{AllocError, Global};
 use words::{Kind, Word};
@@ -36,6 +37,7 @@ pub fn masks(heap: Global, run: u32) -> Result<Vec<u32>, AllocError> {
 // How far a band's ends lie from its middle at a place in the run: the square of the ticks between.
 fn reach(place: u32) -> i32
     requires { place < 256 }
+    ensures value { result ≡ pos (abs_diff place 128 * abs_diff place 128) }
     ensures low { pos 0 ≤ℤ result }
     ensures high { result ≤ℤ pos 16384 }
 {
