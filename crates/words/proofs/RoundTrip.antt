@@ -1,13 +1,12 @@
 -- A word in range and its kind and number make each other.
-use Rattle.std.proofs.Common.{◌≡◌, ℕ, ◌<◌, ◌≤◌, Bool, true, false, cond, ℤ, pos, ◌+ℤ◌, nat_abs, ◌≤ℤ◌, IfSome, Some, None, Option, sym, refl, ap, ◌∙◌, subst, arith}
+use Rattle.std.proofs.Common.{◌≡◌, ℕ, ◌<◌, ◌≤◌, Bool, true, false, cond, ℤ, pos, ◌+ℤ◌, nat_abs, ◌≤ℤ◌, Some, None, Option, sym, refl, ap, ◌∙◌, subst, arith}
 use Rattle.std.proofs.lemmas.Int.{ints}
 use Rattle.std.proofs.lemmas.Bool.Decides.{nat_tests}
-use Rattle.std.proofs.lemmas.Bool.{cond-true, true≢false}
+use Rattle.std.proofs.lemmas.Bool.{cond-true}
 use Rattle.words.specs.declared.kind.Kind.{Kind}
-use Rattle.words.specs.declared.word.Word.{Word}
 use Rattle.words.specs.declared.kind.Kind.TheVariants.{Low, High, Mask, Start, Batch, End, Level, Pivot, Height, Rise, Over, Grade, Tape, Count}
 use Rattle.words.specs.Kinds.{kind_number, kind_of, bias, least, most, in_range}
-use Rattle.words.specs.Words.{top_bits, payload, word_of, number_in, is_a, held, Only, Made, Parts, Apart}
+use Rattle.words.specs.Words.{top_bits, payload, word_of, number_in, is_a, held, Only}
 
 -- the payloads of a kind are numbers of 28 bits
 pub record Room (k : Kind) : Type 0 where
@@ -87,40 +86,6 @@ held_some : (b : Bool) (x n : ℤ) → ◌≡◌ {A = Option ℤ} (cond b (Some 
 held_some true x n h = (refl, cc)
 held_some false x n h = absurd (let z : ◌≡◌ {A = ℕ} 0 1 = cc in omega arith)
 
-held_none : (b : Bool) (x : ℤ) → (b ≡ true → ⊥) → ◌≡◌ {A = Option ℤ} (cond b (Some x) None) None
-held_none true x h = absurd (h refl)
-held_none false x h = refl
-
-its_kind : (k : Kind) (w : ℕ) → is_a k w ≡ true → kind_of (top_bits w) ≡ Some k
-its_kind k w h = let t : top_bits w ≡ kind_number k = grind (arith, nat_tests) in ap kind_of t ∙ (room k).back
-
--- a word whose top bits are no kind's holds nothing
-pub of_no_kind : (w : ℕ) → kind_of (top_bits w) ≡ None → (k : Kind) → held k w ≡ None
-of_no_kind w e k = held_none (is_a k w) (number_in k w) (λ h. let i = its_kind k w h in let z : ◌≡◌ {A = ℕ} 0 1 = cc in omega arith)
-
--- a word that holds nothing of its own kind holds nothing of another
-pub of_its_kind : (w : ℕ) (j : Kind) → kind_of (top_bits w) ≡ Some j → held j w ≡ None → (k : Kind) → held k w ≡ None
-of_its_kind w j e n k =
-    held_none (is_a k w) (number_in k w)
-    (λ h. let i = its_kind k w h in let s : k ≡ j = cc in let t = cond-true (is_a k w) (Some (number_in k w)) None h in
-    let z : ◌≡◌ {A = ℕ} 0 1 = (let v : held k w ≡ None = ap (λ (x : Kind). held x w) s ∙ n in cc) in omega arith)
-
-pub apart_from : (k : Kind) (n : ℤ) (w : ℕ) (r : Option Word) → held k w ≡ Some n → Made k n r → Apart w r
-apart_from k n w None h m =
-    let s = held_some (is_a k w) (number_in k w) n h in
-    let i : in_range k (number_in k w) ≡ true = grind arith in
-    let z : ◌≡◌ {A = Bool} true false = (let j = ap (in_range k) s.1 in cc) in absurd (true≢false z)
-apart_from k n w (Some x) h m = let a = m.1 in let b = m.2 in ap (λ (y : Kind). held y w) a ∙ h ∙ ap Some (sym b)
-
--- from the parts of a word, by its top bits' kind
-pub no_parts : (o : Option Kind) (w : ℕ) → kind_of (top_bits w) ≡ o → Parts o w None → (k : Kind) → held k w ≡ None
-no_parts None w e h = of_no_kind w e
-no_parts (Some j) w e h = of_its_kind w j e h
-
-pub its_parts : (o : Option Kind) (w : ℕ) (k : Kind) (n : ℤ) → Parts o w (Some (k, n)) → held k w ≡ Some n
-its_parts None w k n h = absurd (let z : ◌≡◌ {A = ℕ} 0 1 = cc in omega arith)
-its_parts (Some j) w k n h = ap (λ (x : Kind). held x w) h.0 ∙ h.1
-
 -- made again of what it holds, a word is itself
 pub made_again : (k : Kind) (n : ℤ) (w : ℕ) → held k w ≡ Some n → word_of k n ≡ w
 made_again k n w h =
@@ -128,7 +93,3 @@ made_again k n w h =
     let t : top_bits w ≡ kind_number k = (let i = s.0 in grind (arith, nat_tests)) in
     let a : nat_abs (n +ℤ bias k) ≡ payload w = (let e = s.1 in omega (arith, ints)) in
     omega arith
-
-pub again_from : (w : ℕ) (r : Option Word) → Apart w r → IfSome r (λ x. word_of x.kind x.number ≡ w)
-again_from w None h = tt
-again_from w (Some x) h = made_again x.kind x.number w h

@@ -1,6 +1,8 @@
 -- The kinds of words: each kind's number, which numbers its words hold, and the bias between number and payload.
-use Rattle.std.specs.Prelude.{ℕ, Bool, cond, ◌&&◌, ℤ, pos, neg_ℤ, Some, None, Option, ◌==◌, int_le}
+use Rattle.std.specs.Prelude.{◌≡◌, ℕ, Bool, cond, ◌&&◌, ℤ, pos, neg_ℤ, Some, None, Option, Result, MatchResult, ◌==◌, int_le}
 use Rattle.words.specs.declared.kind.Kind.{Kind}
+use Rattle.words.specs.declared.kind.NotAWord.{NotAWord}
+use Rattle.words.specs.declared.kind.NotAWord.TheVariants.{UnknownKind}
 use Rattle.words.specs.declared.kind.Kind.TheVariants.{Low, High, Mask, Start, Batch, End, Level, Pivot, Height, Rise, Over, Grade, Tape, Count}
 
 -- the top four bits of a word of the kind
@@ -37,6 +39,10 @@ kind_of n =
     (cond (n == 12) (Some Grade)
     (cond (n == 14) (Some Tape)
     (cond (n == 15) (Some Count) None)))))))))))))
+
+-- what a number is taken for: its kind, or that it is no kind's
+abbrev pub Named : ℕ → Result Kind NotAWord → Type 0
+Named n r = MatchResult r (λ k. kind_of n ≡ Some k) (λ e. (kind_of n ≡ None) × (e ≡ UnknownKind))
 
 -- what is added to a number to make the payload of its word
 abbrev pub bias : Kind → ℤ

@@ -1,8 +1,10 @@
 -- The 32-bit word: its top four bits are its kind, its low 28 bits its payload. "Biased": the payload is the number and 2,000,000.
-use Rattle.std.specs.Prelude.{◌≡◌, ℕ, ◌+◌, ◌*◌, ◌/◌, ◌%◌, Bool, true, false, cond, ◌&&◌, ℤ, pos, ◌+ℤ◌, ◌-ℤ◌, Some, None, Option, MatchOption, ◌==◌, nat_le, unsigned_abs}
+use Rattle.std.specs.Prelude.{◌≡◌, ℕ, ◌+◌, ◌*◌, ◌/◌, ◌%◌, Bool, true, false, cond, ◌&&◌, ℤ, pos, ◌+ℤ◌, ◌-ℤ◌, Some, None, Option, MatchOption, Result, MatchResult, IfOk, ◌==◌, nat_le, unsigned_abs}
 use Rattle.words.specs.declared.kind.Kind.{Kind}
+use Rattle.words.specs.declared.kind.NotAWord.{NotAWord}
+use Rattle.words.specs.declared.kind.NotAWord.TheVariants.{UnknownKind, OutOfRange}
 use Rattle.words.specs.declared.word.Word.{Word}
-use Rattle.words.specs.Kinds.{kind_number, bias, in_range}
+use Rattle.words.specs.Kinds.{kind_number, kind_of, bias, in_range}
 
 -- the top four bits of a word, and the low 28
 abbrev pub top_bits : ℕ → ℕ
@@ -18,6 +20,10 @@ tick_in_range t = nat_le t 268435455
 -- the word of a kind that holds a number
 abbrev pub word_of : Kind → ℤ → ℕ
 word_of k n = kind_number k * 268435456 + unsigned_abs (n +ℤ bias k)
+
+-- the word of a kind with the low 28 bits of a number for its payload
+abbrev pub tagged : Kind → ℕ → ℕ
+tagged k p = kind_number k * 268435456 + payload p
 
 -- the number that the payload stands for in a word of a kind
 abbrev pub number_in : Kind → ℕ → ℤ
@@ -35,14 +41,24 @@ is_a k w = of_kind k w && in_range k (number_in k w)
 abbrev pub held : Kind → ℕ → Option ℤ
 held k w = cond (is_a k w) (Some (number_in k w)) None
 
--- the kind that the top bits name, and the number that the word then holds; none, where there is no such kind or number
-abbrev pub Parts : Option Kind → ℕ → Option (Kind × ℤ) → Type 0
-Parts None w r = r ≡ None
-Parts (Some k) w r = MatchOption r (held k w ≡ None) (λ p. (p.0 ≡ k) × (held k w ≡ Some p.1))
+-- why a word is one in range of no kind: its top bits name none, or the kind that they name does not hold its number
+abbrev pub misfit : Option Kind → NotAWord
+misfit None = UnknownKind
+misfit (Some k) = OutOfRange
 
--- a word taken apart into its kind and the number it holds; none, where it is a word in range of no kind
-abbrev pub Apart : ℕ → Option Word → Type 0
-Apart w r = MatchOption r ((k : Kind) → held k w ≡ None) (λ x. held x.kind w ≡ Some x.number)
+-- the kind that the top bits name, and the number that the word then holds; an error, where it is a word in range of no kind
+abbrev pub Parts : ℕ → Result (Kind × ℤ) NotAWord → Type 0
+Parts w r =
+    MatchResult r (λ p. (kind_of (top_bits w) ≡ Some p.0) × (held p.0 w ≡ Some p.1))
+    (λ e. ((k : Kind) → held k w ≡ None) × (e ≡ misfit (kind_of (top_bits w))))
+
+-- a word taken apart into its kind and the number it holds; an error, where it is a word in range of no kind
+abbrev pub Apart : ℕ → Result Word NotAWord → Type 0
+Apart w r = MatchResult r (λ x. held x.kind w ≡ Some x.number) (λ e. ((k : Kind) → held k w ≡ None) × (e ≡ misfit (kind_of (top_bits w))))
+
+-- a word taken apart, which then makes the same 32 bits again
+abbrev pub TakenApart : ℕ → Result Word NotAWord → Type 0
+TakenApart w r = Apart w r × IfOk r (λ x. word_of x.kind x.number ≡ w)
 
 -- a word made of a kind and a number, where the kind's words hold the number
 abbrev pub Made : Kind → ℤ → Option Word → Type 0
@@ -51,3 +67,9 @@ Made k n r = MatchOption r (in_range k n ≡ false) (λ x. (in_range k n ≡ tru
 -- no other kind and number make the word w than k and n
 abbrev pub Only : Kind → ℤ → ℕ → Type 0
 Only k n w = (j : Kind) (m : ℤ) → in_range j m ≡ true → word_of j m ≡ w → (j ≡ k) × (m ≡ n)
+
+-- the 32 bits of a word: they hold its number again, and no other kind and number make them
+pub record Written (x : Word) (w : ℕ) : Type 0 where
+  pub value : w ≡ word_of x.kind x.number
+  pub back : held x.kind w ≡ Some x.number
+  pub only : Only x.kind x.number w

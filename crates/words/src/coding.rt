@@ -1,28 +1,11 @@
-ghost use Rattle.std.specs.Prelude.{◌≡◌, ◌+◌, ◌*◌, ◌<◌, ◌+ℤ◌, IfSome, Some, unsigned_abs};
-ghost use Rattle.words.specs.Kinds.{kind_of, bias};
-ghost use Rattle.words.specs.Words.{top_bits, payload, of_kind, held, word_of, Made, Parts, Apart, Only};
+ghost use Rattle.std.specs.Prelude.{◌≡◌, ◌<◌, ◌+ℤ◌, unsigned_abs};
+ghost use Rattle.words.specs.Kinds.{bias};
+ghost use Rattle.words.specs.Words.{top_bits, payload, of_kind, held, tagged, Made, Parts, TakenApart, Written};
 
-use super::{Kind, Word};
+use super::{Kind, NotAWord, Word};
 
 // The number of values of a payload, 2^28.
 const PAYLOADS: u32 = 268_435_456;
-
-// The word of a kind's number and a payload.
-fn joined(kind: u32, payload: u32) -> u32
-    requires { (kind < 16) × (payload < 268435456) }
-    ensures { result ≡ kind * 268435456 + payload }
-{
-    kind * PAYLOADS + payload
-}
-
-// The kind of a word and the number that it holds.
-fn parts(bits: u32) -> Option<(Kind, i32)>
-    ensures { Parts (kind_of (top_bits bits)) bits result }
-{
-    let kind = Kind::of_number(bits / PAYLOADS)?;
-    let number = kind.read(bits)?;
-    Some((kind, number))
-}
 
 // The low 28 bits of a word.
 pub fn payload(bits: u32) -> u32
@@ -31,25 +14,44 @@ pub fn payload(bits: u32) -> u32
     bits % PAYLOADS
 }
 
+// The top four bits of a word.
+fn top_bits(bits: u32) -> u32
+    ensures { result ≡ top_bits bits }
+{
+    bits / PAYLOADS
+}
+
 impl Kind {
     // Whether the word's top bits are this kind's number.
     pub fn names(self, bits: u32) -> bool
         ensures { result ≡ of_kind self bits }
     {
-        bits / PAYLOADS == self.number()
+        top_bits(bits) == u32::from(self)
     }
 
     // The number that the word holds, if it is of this kind and in range.
     pub fn read(self, bits: u32) -> Option<i32>
         ensures { result ≡ held self bits }
     {
-        let number = (bits % PAYLOADS) as i32 - self.bias();
-        if self.names(bits) && self.holds(number) {
-            Some(number)
-        } else {
-            None
-        }
+        let number = payload(bits) as i32 - self.bias();
+        (self.names(bits) && self.holds(number)).then_some(number)
     }
+
+    // The word of this kind with a payload, in the kind's range or not: of the payload its low 28 bits.
+    pub fn with_payload(self, payload: u32) -> u32
+        ensures { result ≡ tagged self payload }
+    {
+        u32::from(self) * PAYLOADS + payload % PAYLOADS
+    }
+}
+
+// The kind of a word and the number that it holds.
+fn parts(bits: u32) -> Result<(Kind, i32), NotAWord>
+    ensures { Parts bits result }
+{
+    let kind = Kind::try_from(top_bits(bits))?;
+    let number = kind.read(bits).ok_or(NotAWord::OutOfRange)?;
+    Ok((kind, number))
 }
 
 impl Word {
@@ -64,15 +66,6 @@ impl Word {
         }
     }
 
-    // Takes a word apart: none, where it is of no kind or out of its kind's range.
-    pub fn of_bits(bits: u32) -> Option<Word>
-        ensures apart { Apart bits result }
-        ensures again { IfSome result (λ w. word_of w.kind w.number ≡ bits) }
-    {
-        let (kind, number) = parts(bits)?;
-        Word::new(kind, number)
-    }
-
     // The number and the bias.
     fn payload(self) -> u32
         ensures value { result ≡ unsigned_abs (self.number +ℤ bias self.kind) }
@@ -80,13 +73,25 @@ impl Word {
     {
         (self.number + self.kind.bias()) as u32
     }
+}
 
-    // The word's 32 bits.
-    pub fn bits(self) -> u32
-        ensures value { result ≡ word_of self.kind self.number }
-        ensures back { held self.kind result ≡ Some self.number }
-        ensures only { Only self.kind self.number result }
-    {
-        joined(self.kind.number(), self.payload())
+// Takes a word apart.
+impl TryFrom<u32> for Word {
+    type Error = NotAWord;
+
+    ghost try_from_gives = { TakenApart };
+
+    fn try_from(bits: u32) -> Result<Word, NotAWord> {
+        let (kind, number) = parts(bits)?;
+        Ok(Word { kind, number })
+    }
+}
+
+// The word's 32 bits.
+impl From<Word> for u32 {
+    ghost from_gives = { Written };
+
+    fn from(word: Word) -> u32 {
+        word.kind.with_payload(word.payload())
     }
 }

@@ -1,5 +1,8 @@
 ghost use Rattle.std.specs.Prelude.{◌≡◌};
-ghost use Rattle.words.specs.Kinds.{kind_number, kind_of, bias, least, most, in_range};
+ghost use Rattle.words.specs.Kinds.{kind_number, bias, least, most, in_range, Named};
+
+use std::error::Error;
+use std::fmt;
 
 // What a word holds. The kind's number is the word's top four bits; the numbers 0 and 13 are no kind's.
 #[derive(Clone, Copy, PartialEq, Eq, Debug)]
@@ -34,12 +37,32 @@ pub enum Kind {
     Count,
 }
 
-impl Kind {
-    // The kind's number, 1 to 15.
-    pub fn number(self) -> u32
-        ensures { result ≡ kind_number self }
-    {
-        match self {
+// Why a number is no kind's, or 32 bits are no word.
+#[derive(Clone, Copy, PartialEq, Eq, Debug)]
+pub enum NotAWord {
+    // the number, or the bits' top four, are no kind's
+    UnknownKind,
+    // the payload is out of the kind's range
+    OutOfRange,
+}
+
+impl fmt::Display for NotAWord {
+    fn fmt<W: fmt::Write>(&self, f: &mut fmt::Formatter<W>) -> fmt::Result {
+        f.write_str(match self {
+            NotAWord::UnknownKind => "no kind of word has this number",
+            NotAWord::OutOfRange => "the payload is out of the kind's range",
+        })
+    }
+}
+
+impl Error for NotAWord {}
+
+// The kind's number, 1 to 15.
+impl From<Kind> for u32 {
+    ghost from_gives = { λ kind number. number ≡ kind_number kind };
+
+    fn from(kind: Kind) -> u32 {
+        match kind {
             Kind::Low => 1,
             Kind::High => 2,
             Kind::Mask => 3,
@@ -56,30 +79,36 @@ impl Kind {
             Kind::Count => 15,
         }
     }
+}
 
-    // The kind of a number, if it is one's.
-    pub fn of_number(number: u32) -> Option<Kind>
-        ensures { result ≡ kind_of number }
-    {
+// The kind of a number, if it is one's.
+impl TryFrom<u32> for Kind {
+    type Error = NotAWord;
+
+    ghost try_from_gives = { Named };
+
+    fn try_from(number: u32) -> Result<Kind, NotAWord> {
         match number {
-            1 => Some(Kind::Low),
-            2 => Some(Kind::High),
-            3 => Some(Kind::Mask),
-            4 => Some(Kind::Start),
-            5 => Some(Kind::Batch),
-            6 => Some(Kind::End),
-            7 => Some(Kind::Level),
-            8 => Some(Kind::Pivot),
-            9 => Some(Kind::Height),
-            10 => Some(Kind::Rise),
-            11 => Some(Kind::Over),
-            12 => Some(Kind::Grade),
-            14 => Some(Kind::Tape),
-            15 => Some(Kind::Count),
-            _ => None,
+            1 => Ok(Kind::Low),
+            2 => Ok(Kind::High),
+            3 => Ok(Kind::Mask),
+            4 => Ok(Kind::Start),
+            5 => Ok(Kind::Batch),
+            6 => Ok(Kind::End),
+            7 => Ok(Kind::Level),
+            8 => Ok(Kind::Pivot),
+            9 => Ok(Kind::Height),
+            10 => Ok(Kind::Rise),
+            11 => Ok(Kind::Over),
+            12 => Ok(Kind::Grade),
+            14 => Ok(Kind::Tape),
+            15 => Ok(Kind::Count),
+            _ => Err(NotAWord::UnknownKind),
         }
     }
+}
 
+impl Kind {
     // What is added to the number to make the payload.
     pub(crate) fn bias(self) -> i32
         ensures { result ≡ bias self }

@@ -11,7 +11,7 @@ mod tick;
 mod word;
 
 pub use coding::payload;
-pub use kind::Kind;
+pub use kind::{Kind, NotAWord};
 pub use refusal::{Reason, Refusal};
 pub use tick::{TOP_TICK, is_tick};
 pub use word::Word;

@@ -1,6 +1,7 @@
 ghost use Rattle.std.specs.Prelude.{◌≡◌};
 ghost use Rattle.words.specs.Refusals.{reason_number, refusal_at, refusal_of};
 
+use std::error::Error;
 use std::fmt;
 
 // Why a call was refused.
@@ -30,12 +31,12 @@ pub enum Reason {
     Unlawful,
 }
 
-impl Reason {
-    // The number by which the reason is known, 1 to 11.
-    pub fn number(self) -> u8
-        ensures { result ≡ reason_number self }
-    {
-        match self {
+// The number by which the reason is known, 1 to 11.
+impl From<Reason> for u8 {
+    ghost from_gives = { λ reason number. number ≡ reason_number reason };
+
+    fn from(reason: Reason) -> u8 {
+        match reason {
             Reason::RowLength => 1,
             Reason::BadWord => 2,
             Reason::NoChoice => 3,
@@ -53,29 +54,19 @@ impl Reason {
 
 impl fmt::Display for Reason {
     fn fmt<W: fmt::Write>(&self, f: &mut fmt::Formatter<W>) -> fmt::Result {
-        match self {
-            Reason::RowLength => f.write_str("the row has the wrong number of words"),
-            Reason::BadWord => f.write_str("a word of the row is of a wrong kind or out of range"),
-            Reason::NoChoice => f.write_str("no choice serves the reading, even alone"),
-            Reason::Unfitting => f.write_str("the reading does not fit the run"),
-            Reason::BadTick => f.write_str(
-                "the tick is above 268435455 or not above the last one accepted",
-            ),
-            Reason::NothingToMark => f.write_str(
-                "nothing was accepted since opening or the last mark",
-            ),
-            Reason::NoSegment => f.write_str("no segment spans the tick, or there is no such item"),
-            Reason::OtherStore => f.write_str(
-                "the store's length or the pick's width is not as at opening",
-            ),
-            Reason::WordsLength => f.write_str(
-                "the answer row, slot or pick words have the wrong length",
-            ),
-            Reason::NoPlace => f.write_str("a new run is needed and no place is left"),
-            Reason::Unlawful => f.write_str(
-                "a rule of the tape is broken or the pick words are unlawful",
-            ),
-        }
+        f.write_str(match self {
+            Reason::RowLength => "the row has the wrong number of words",
+            Reason::BadWord => "a word of the row is of a wrong kind or out of range",
+            Reason::NoChoice => "no choice serves the reading, even alone",
+            Reason::Unfitting => "the reading does not fit the run",
+            Reason::BadTick => "the tick is above 268435455 or not above the last one accepted",
+            Reason::NothingToMark => "nothing was accepted since opening or the last mark",
+            Reason::NoSegment => "no segment spans the tick, or there is no such item",
+            Reason::OtherStore => "the store's length or the pick's width is not as at opening",
+            Reason::WordsLength => "the answer row, slot or pick words have the wrong length",
+            Reason::NoPlace => "a new run is needed and no place is left",
+            Reason::Unlawful => "a rule of the tape is broken or the pick words are unlawful",
+        })
     }
 }
 
@@ -105,9 +96,11 @@ impl Refusal {
     pub fn number(self) -> u8
         ensures { result ≡ reason_number self.reason }
     {
-        self.reason.number()
+        u8::from(self.reason)
     }
 }
+
+impl Error for Refusal {}
 
 impl fmt::Display for Refusal {
     fn fmt<W: fmt::Write>(&self, f: &mut fmt::Formatter<W>) -> fmt::Result {
