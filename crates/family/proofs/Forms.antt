@@ -1,14 +1,10 @@
 -- What is known where no check refuses.
-use Rattle.std.proofs.Common.{◌≡◌, ℕ, ◌<◌, ◌≤◌, Bool, true, false, ◌&&◌, List, [], ◌∷◌, length, set, ℤ, is_some, Some, None, Decides, Option, refl, ap, ◌∙◌, arith}
-use Rattle.std.proofs.lemmas.Option.{MatchOption-at_some}
+use Rattle.std.proofs.Common.{◌≡◌, ℕ, ◌<◌, ◌≤◌, Bool, true, false, ◌&&◌, List, length, is_some, Some, None, Decides, Option, refl, arith}
 use Rattle.std.proofs.lemmas.Bool.{false≢true}
 use Rattle.std.proofs.lemmas.Bool.Decides.{nat_tests}
 use Rattle.words.specs.declared.refusal.Reason.TheVariants.{RowLength, BadTick, NoChoice, NoSegment, Unlawful, WordsLength}
 use Rattle.words.specs.declared.refusal.Refusal.{Refusal}
-use Rattle.words.specs.declared.kind.Kind.{Kind}
-use Rattle.words.specs.declared.word.Word.{Word}
-use Rattle.words.specs.Kinds.{in_range}
-use Rattle.words.specs.Words.{tick_in_range, word_of, Made}
+use Rattle.words.specs.Words.{tick_in_range}
 use Rattle.family.specs.Readings.{Reading}
 use Rattle.family.specs.Refusing.{first_refusal, refuse_unless, refuse_if, refuse_word, right, spans}
 use Rattle.family.specs.Meaning.{Meaning, Fits, Next, form_refusal, value_refusal}
@@ -31,28 +27,10 @@ module _ {S : Type 0} (m : Meaning S) (r : Reading) (h : form_refusal m r ≡ No
   pub formed : (tick_in_range r.tick ≡ true) × (right m.row_width (length r.row) ≡ true) × (m.wrong_word r ≡ None)
   formed = formed_parts (tick_in_range r.tick) (right m.row_width (length r.row)) (m.wrong_word r) h
 
-  pub formed_length : length r.row ≡ m.row_width
-  formed_length = (right_length m.row_width (length r.row) formed.1).1
-
--- the one word of a slot of one word
-pub set_one : (xs : List ℕ) (v : ℕ) → refuse_unless (right 1 (length xs)) WordsLength ≡ None → set xs 0 v ≡ v ∷ []
-set_one [] v h = grind arith
-set_one (x ∷ []) v h = refl
-set_one (x ∷ (y ∷ xs)) v h = grind (arith, nat_tests)
-
 -- a state after taking is there exactly where the reading fits
 pub next_decides : {S : Type 0} (m : Meaning S) (s : S) (r : Reading) (o : Option S) → Next m s r o → Decides (is_some o) (Fits m s r)
 next_decides m s r None h = (λ e. absurd (false≢true e), λ f. absurd (h f))
 next_decides m s r (Some t) h = (λ e. h.0, λ f. refl)
-
--- the bits of a word made of a kind and a number, written into a slot of one word
-pub slot_filled : (k : Kind) (n : ℤ) (o : Option Word) (x : Word) (xs : List ℕ) (b : ℕ) → Made k n o → o ≡ Some x → b ≡ word_of x.kind x.number →
-    refuse_unless (right 1 (length xs)) WordsLength ≡ None → set xs 0 b ≡ word_of k n ∷ []
-slot_filled k n o x xs b m e v h =
-    let d = MatchOption-at_some (in_range k n ≡ false) (λ y. (in_range k n ≡ true) × (y.kind ≡ k) × (y.number ≡ n)) x e m in
-    let p = d.1 in
-    let q = d.2 in
-    set_one xs b h ∙ ap (λ (z : ℕ). z ∷ []) (cc)
 
 value_checks : (a b c d : Bool) → first_refusal (refuse_unless a WordsLength) (first_refusal (refuse_unless b BadTick) (first_refusal (refuse_unless c Unlawful) (refuse_unless d NoSegment))) ≡ None → (a ≡ true) × (b ≡ true) × (c ≡ true) × (d ≡ true)
 value_checks true true true true h = (refl, refl, refl, refl)

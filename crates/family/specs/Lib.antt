@@ -4,3 +4,4 @@ pub mod Meaning
 pub mod Laws
 pub mod Runs
 pub mod Bands
+pub mod Picks

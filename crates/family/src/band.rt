@@ -1,5 +1,5 @@
 ghost use Rattle.std.specs.Prelude.{◌≡◌, length, ◌≤ℤ◌};
-ghost use Rattle.family.specs.Bands.{band_wrong, band_refusal, low_of, high_of};
+ghost use Rattle.family.specs.Bands.{band_wrong, band_refusal, low_of, high_of, Shared};
 ghost use Rattle.family.specs.Refusing.{Answered, row_refusal};
 
 use super::checks::{check_length, check_tick, read_word};
@@ -33,5 +33,18 @@ impl Band {
             return Err(Refusal::new(Reason::NoChoice));
         }
         Ok(band)
+    }
+
+    // The values that both bands allow; none, where there are none.
+    pub fn shared(self, other: Band) -> Option<Band>
+        ensures { Shared self other result }
+    {
+        let low = self.low.max(other.low);
+        let high = self.high.min(other.high);
+        if low <= high {
+            Some(Band { low, high })
+        } else {
+            None
+        }
     }
 }

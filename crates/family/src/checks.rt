@@ -1,7 +1,7 @@
 ghost use Rattle.std.specs.Prelude.{◌≡◌, length, replicate, Decides};
 ghost use Rattle.words.specs.Words.{is_a, number_in};
 ghost use Rattle.family.specs.Readings.{Above};
-ghost use Rattle.family.specs.Refusing.{Answered, Passed, refuse_unless, refuse_word, right, tick_refusal, span_refusal, place_unless};
+ghost use Rattle.family.specs.Refusing.{Answered, Passed, refuse_unless, refuse_word, right, tick_refusal, place_unless};
 
 use words::{Kind, Reason, Refusal, is_tick};
 
@@ -27,35 +27,18 @@ pub fn check_length(width: u16, len: usize, reason: Reason) -> Result<(), Refusa
     }
 }
 
-// Refuses by 7 a tick that is not from first to last.
-pub fn check_span(first: u32, last: u32, tick: u32) -> Result<(), Refusal>
-    ensures { Passed (span_refusal first last tick) result }
-{
-    if first <= tick && tick <= last {
-        Ok(())
-    } else {
-        Err(Refusal::new(Reason::NoSegment))
-    }
-}
-
 // The number that a word of the kind holds; refuses by 2, at the place, a word of another kind or out of range.
 pub fn read_word(kind: Kind, word: u32, place: usize) -> Result<i32, Refusal>
     ensures { Answered (refuse_word (place_unless (is_a kind word) place)) result (λ n. n ≡ number_in kind word) }
 {
-    match kind.read(word) {
-        Some(number) => Ok(number),
-        None => Err(Refusal::at(Reason::BadWord, place)),
-    }
+    kind.read(word).ok_or(Refusal::at(Reason::BadWord, place))
 }
 
 // Whether the tick is above the last one taken, if any was.
 pub fn is_above(last: Option<u32>, tick: u32) -> bool
     ensures { Decides result (Above last tick) }
 {
-    match last {
-        Some(before) => before < tick,
-        None => true,
-    }
+    last.is_none_or(|before| before < tick)
 }
 
 // Makes every word of an answer row 0.

@@ -4,7 +4,8 @@ ghost use Rattle.family.specs.Refusing.{Answered, Passed, Filled};
 ghost use Rattle.family.specs.Meaning.{Meaning, Fits, TakeAnswer, refusal, scan_refusal, slot_refusal, words_refusal, value_refusal};
 ghost use Rattle.family.specs.Laws.{Laws};
 
-use super::checks::{check_length, check_span, check_tick};
+use super::Span;
+use super::checks::{check_length, check_tick};
 use words::{Reason, Refusal};
 
 // A family of curves. A value of the implementing type is a state: what the family still allows after the readings taken
@@ -45,36 +46,24 @@ pub trait Family {
     fn pick(&self, slot: &mut [u32]) -> Result<(), Refusal>
         ensures { Filled (slot_refusal meaning (length slot.old)) result slot.old (meaning.words self.now) slot.new };
 
-    // Whether pick words are lawful for a first and a last tick: refuses by 9 a wrong length, by 11 unlawful words.
-    fn check(words: &[u32], first: u32, last: u32) -> Result<(), Refusal>
-        ensures { Passed (words_refusal meaning words.now first last) result };
+    // Whether pick words are lawful for a run's first and last tick: refuses by 9 a wrong length, by 11 unlawful words.
+    fn check(words: &[u32], span: Span) -> Result<(), Refusal>
+        ensures { Passed (words_refusal meaning words.now span.first span.last) result };
 
-    // Reads the value at a tick from pick words with their first and last tick; refuses by 9, 5, 11, 7. A refusal leaves
+    // Reads the value at a tick from pick words with the first and last tick of their run; refuses by 9, 5, 11, 7. A refusal leaves
     // every word of the row 0.
-    fn value(
-        words: &[u32],
-        first: u32,
-        last: u32,
-        tick: u32,
-        row: &mut [u32],
-    ) -> Result<(), Refusal>
-        ensures { Filled (value_refusal meaning words.now first last tick (length row.old)) result (replicate (length row.old) 0) (meaning.value words.now tick) row.new };
+    fn value(words: &[u32], span: Span, tick: u32, row: &mut [u32]) -> Result<(), Refusal>
+        ensures { Filled (value_refusal meaning words.now span.first span.last tick (length row.old)) result (replicate (length row.old) 0) (meaning.value words.now tick) row.new };
 
     // The checks of reading a value into a row of `len` words, in their order: 9, 5, 11, 7.
-    fn check_value(
-        words: &[u32],
-        first: u32,
-        last: u32,
-        tick: u32,
-        len: usize,
-    ) -> Result<(), Refusal>
-        ensures { Passed (value_refusal meaning words.now first last tick len) result }
+    fn check_value(words: &[u32], span: Span, tick: u32, len: usize) -> Result<(), Refusal>
+        ensures { Passed (value_refusal meaning words.now span.first span.last tick len) result }
     {
         check_length(Self::value_width(), len, Reason::WordsLength)?;
         check_length(Self::pick_width(), words.len(), Reason::WordsLength)?;
         check_tick(tick)?;
-        Self::check(words, first, last)?;
-        check_span(first, last, tick)
+        Self::check(words, span)?;
+        span.check(tick)
     }
 
     // what every family keeps
