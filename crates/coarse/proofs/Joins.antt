@@ -1,43 +1,35 @@
--- A reading fits a coarse state exactly where the steps of its band and the allowed steps overlap and its tick is new.
-use Rattle.std.proofs.Common.{◌≡◌, ℤ, ◌≤ℤ◌, Some, ap, ◌∙◌, arith}
+-- A reading fits a coarse state exactly where the steps of its band and the allowed steps have steps in common and its tick
+-- is new.
+use Rattle.std.proofs.Common.{◌≡◌, None, Some, Option, ap, ◌∙◌, arith}
 use Rattle.std.specs.Int.{int_max, int_min}
 use Rattle.std.proofs.lemmas.Int.{ints, clamps}
-use Rattle.family.specs.Readings.{Reading, Above}
-use Rattle.family.specs.Meaning.{Fits}
+use Rattle.family.specs.declared.band.Band.{Band}
+use Rattle.family.specs.Readings.{Reading}
+use Rattle.family.specs.Meaning.{Next}
 use Rattle.family.specs.Bands.{low_of, high_of}
 use Rattle.coarse.specs.declared.coarse.Coarse.{Coarse}
-use Rattle.coarse.specs.Grid.{coarse_meaning, Choice, first_step, last_step}
+use Rattle.coarse.specs.Grid.{coarse_meaning, Choice, Joined, first_step, last_step}
 use Rattle.coarse.specs.Steps.{first_over, first_under, last_over, last_under}
 
--- `lo` and `hi` are the ends of the steps of the reading's band, as the code holds them
-module _ (s : Coarse) (r : Reading) (lo hi : ℤ) (el : lo ≡ first_step (low_of r.row)) (eh : hi ≡ last_step (high_of r.row)) where
-  abbrev pub Overlaps : Type 0
-  Overlaps = Above s.last r.tick × (lo ≤ℤ s.high) × (s.low ≤ℤ hi)
-
-  pub fits_from : lo ≤ℤ hi → Overlaps → Fits coarse_meaning s r
-  fits_from o j =
-      let sl = s.bottom in
-      let so = s.order in
-      let st = s.top in
-      let x = j.1 in
-      let y = j.2 in
-      let f = first_over (low_of r.row) in
-      let l = last_under (high_of r.row) in
-      let c : Choice = record { step = int_max s.low lo; low = omega (arith, ints, clamps); high = omega (arith, ints, clamps) } in
-      record { above = j.0; some = record { by = c; allowed = (omega (arith, ints, clamps), omega (arith, ints, clamps)); serving = (omega (arith, ints, clamps), omega (arith, ints, clamps)) } }
-
-  pub fits_to : Fits coarse_meaning s r → Overlaps
-  fits_to f =
-      let a = f.some.allowed in
-      let b = f.some.serving in
-      let a0 = a.0 in
-      let a1 = a.1 in
-      let b0 = b.0 in
-      let b1 = b.1 in
-      let u = first_under (low_of r.row) in
-      let v = last_over (high_of r.row) in
-      (f.above, omega (arith, ints), omega (arith, ints))
-
-  -- the state narrowed to these steps is the state after taking the reading
-  pub taken_from : (t : Coarse) → (t.low ≡ int_max s.low lo) × (t.high ≡ int_min s.high hi) × (t.last ≡ Some r.tick) → coarse_meaning.taken s r t
-  taken_from t n = (n.0 ∙ ap (int_max s.low) el, n.1 ∙ ap (int_min s.high) eh, n.2)
+-- the state with the steps of a reading's band taken is the state after taking the reading
+pub next_from : (s : Coarse) (r : Reading) (b : Band) (o : Option Coarse) → b.low ≡ first_step (low_of r.row) → b.high ≡ last_step (high_of r.row)
+    → Joined s r.tick b o → Next coarse_meaning s r o
+next_from s r b None el eh j = λ x.
+    let a0 = x.some.allowed.0 in
+    let a1 = x.some.allowed.1 in
+    let b0 = x.some.serving.0 in
+    let b1 = x.some.serving.1 in
+    let n = j x.above in
+    let u = first_under (low_of r.row) in
+    let v = last_over (high_of r.row) in
+    omega (arith, ints, clamps)
+next_from s r b (Some t) el eh j =
+    let e0 = j.1 in
+    let e1 = j.2 in
+    let o = t.order in
+    let u = first_over (low_of r.row) in
+    let v = last_under (high_of r.row) in
+    let c : Choice = record { step = t.allowed.low; low = t.bottom; high = (let p = t.top in omega (arith, ints)) } in (
+      record { above = j.0; some = record { by = c; allowed = (omega (arith, ints, clamps), omega (arith, ints, clamps)); serving = (omega (arith, ints, clamps), omega (arith, ints, clamps)) } },
+      (e0 ∙ ap (int_max s.allowed.low) el, e1 ∙ ap (int_min s.allowed.high) eh, j.3),
+    )

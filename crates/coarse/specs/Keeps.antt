@@ -26,11 +26,11 @@ reached a b h i = omega (arith, ints)
 at_low : (s : Coarse) → coarse_meaning.allows s (coarse_picked s)
 at_low s = (omega (arith, ints), s.order)
 
-same_low : (s t : Coarse) → Alike coarse_meaning s t → s.low ≡ t.low
+same_low : (s t : Coarse) → Alike coarse_meaning s t → s.allowed.low ≡ t.allowed.low
 same_low s t h =
     let a = (h.allow (coarse_picked s)).0 (at_low s) in
     let b = (h.allow (coarse_picked t)).1 (at_low t) in
-    reached s.low t.low b.0 a.0
+    reached s.allowed.low t.allowed.low b.0 a.0
 
 pub coarse_laws : Laws coarse_meaning
 coarse_laws = record {

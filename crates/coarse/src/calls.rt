@@ -4,11 +4,11 @@ ghost use Rattle.family.specs.Bands.{low_of, high_of};
 ghost use Rattle.family.specs.Readings.{reading, Above};
 ghost use Rattle.family.specs.Refusing.{Answered};
 ghost use Rattle.family.specs.Meaning.{refusal, Next};
-ghost use Rattle.coarse.specs.Grid.{coarse_meaning, number_of, first_step, last_step, on_grid};
+ghost use Rattle.coarse.specs.Grid.{Joined, coarse_meaning, number_of, first_step, last_step, on_grid};
 ghost use Rattle.coarse.specs.Keeps.{coarse_laws};
 
 use super::Coarse;
-use family::{Band, Family, check_length, check_tick, clear, is_above};
+use family::{Band, Family, Span, check_tick, clear, is_above, read_pick, write_pick};
 use words::{Kind, Reason, Refusal, Word};
 
 // The first step whose number is not below `low`.
@@ -53,29 +53,26 @@ impl Coarse {
         ensures { coarse_meaning.restarted result }
     {
         Coarse {
-            low: -20_000,
-            high: 20_000,
+            allowed: Band {
+                low: -20_000,
+                high: 20_000,
+            },
             last: None,
         }
     }
 
-    // Whether the tick is above the last one taken and some allowed step is among the steps.
-    fn joins(&self, tick: u32, steps: Band) -> bool
-        ensures { Decides result (Above self.now.last tick × (steps.low ≤ℤ self.now.high) × (self.now.low ≤ℤ steps.high)) }
+    // The state with steps taken at a tick: none where the tick is not above the last one taken or no allowed step is among them.
+    fn joined(&self, tick: u32, steps: Band) -> Option<Coarse>
+        ensures { Joined self.now tick steps result }
     {
-        is_above(self.last, tick) && steps.low <= self.high && self.low <= steps.high
-    }
-
-    // The steps that were allowed and are among the steps.
-    fn narrowed(&self, tick: u32, steps: Band) -> Coarse
-        requires { (steps.low ≤ℤ steps.high) × ((steps.low ≤ℤ self.now.high) × (self.now.low ≤ℤ steps.high)) }
-        ensures { (result.low ≡ int_max self.now.low steps.low) × (result.high ≡ int_min self.now.high steps.high) × (result.last ≡ Some tick) }
-    {
-        Coarse {
-            low: self.low.max(steps.low),
-            high: self.high.min(steps.high),
-            last: Some(tick),
+        if !is_above(self.last, tick) {
+            return None;
         }
+        let allowed = self.allowed.shared(steps)?;
+        Some(Coarse {
+            allowed,
+            last: Some(tick),
+        })
     }
 
     // The state after taking the reading: none where it does not fit.
@@ -83,18 +80,14 @@ impl Coarse {
         ensures { Answered (refusal coarse_meaning (reading tick row.now)) result (Next coarse_meaning self.now (reading tick row.now)) }
     {
         let steps = read_steps(tick, row)?;
-        if self.joins(tick, steps) {
-            Ok(Some(self.narrowed(tick, steps)))
-        } else {
-            Ok(None)
-        }
+        Ok(self.joined(tick, steps))
     }
 
     // The number picked: the lowest allowed.
     fn lowest(&self) -> i32
-        ensures { result ≡ number_of self.now.low }
+        ensures { result ≡ number_of self.now.allowed.low }
     {
-        self.low * 50
+        self.allowed.low * 50
     }
 }
 
@@ -130,38 +123,27 @@ impl Family for Coarse {
     }
 
     fn take(&mut self, tick: u32, row: &[u32]) -> Result<(), Refusal> {
-        match self.next(tick, row)? {
-            Some(next) => {
-                *self = next;
-                Ok(())
-            }
-            None => Err(Refusal::new(Reason::Unfitting)),
-        }
-    }
-
-    fn pick(&self, slot: &mut [u32]) -> Result<(), Refusal> {
-        check_length(1, slot.len(), Reason::WordsLength)?;
-        slot[0] = Word::new(Kind::Level, self.lowest()).unwrap().bits();
+        *self = self
+            .next(tick, row)?
+            .ok_or(Refusal::new(Reason::Unfitting))?;
         Ok(())
     }
 
-    fn check(words: &[u32], _first: u32, _last: u32) -> Result<(), Refusal> {
-        check_length(1, words.len(), Reason::WordsLength)?;
-        match Kind::Level.read(words[0]) {
-            Some(number) if is_on_grid(number) => Ok(()),
-            _ => Err(Refusal::new(Reason::Unlawful)),
+    fn pick(&self, slot: &mut [u32]) -> Result<(), Refusal> {
+        write_pick(slot, Word::new(Kind::Level, self.lowest()).unwrap())
+    }
+
+    fn check(words: &[u32], _span: Span) -> Result<(), Refusal> {
+        if is_on_grid(read_pick(Kind::Level, words)?) {
+            Ok(())
+        } else {
+            Err(Refusal::new(Reason::Unlawful))
         }
     }
 
-    fn value(
-        words: &[u32],
-        first: u32,
-        last: u32,
-        tick: u32,
-        row: &mut [u32],
-    ) -> Result<(), Refusal> {
+    fn value(words: &[u32], span: Span, tick: u32, row: &mut [u32]) -> Result<(), Refusal> {
         clear(row);
-        Self::check_value(words, first, last, tick, row.len())?;
+        Self::check_value(words, span, tick, row.len())?;
         row[0] = words[0];
         Ok(())
     }

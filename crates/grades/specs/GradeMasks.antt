@@ -1,9 +1,10 @@
 -- What the grades family means: a choice is a grade, which serves a mask that has its bit.
-use Rattle.std.specs.Prelude.{◌≡◌, ℕ, ◌<◌, List, [], ◌∷◌, pos, Some, None, Option, ◌==◌, bit_and, slice_index}
+use Rattle.std.specs.Prelude.{◌≡◌, ℕ, ◌<◌, List, [], ◌∷◌, pos, Some, None, Option, MatchOption, ◌==◌, bit_and, slice_index}
 use Rattle.std.proofs.Common.{arith}
 use Rattle.std.specs.Int.Count.{count_trailing_zeros}
 use Rattle.words.specs.declared.kind.Kind.TheVariants.{Mask, Grade as GradeKind}
 use Rattle.words.specs.Words.{is_a, payload, word_of}
+use Rattle.family.specs.Readings.{Above}
 use Rattle.family.specs.Meaning.{Meaning}
 use Rattle.family.specs.Bands.{first_wrong}
 use Rattle.grades.specs.declared.grades.Grades.{Grades}
@@ -48,3 +49,9 @@ grades_meaning = record {
   lawful = λ ws first last. is_a GradeKind (slice_index ws 0);
   value = λ ws t. slice_index ws 0 ∷ [];
 }
+
+-- the state with the grades of a mask taken at tick t: none where t is not above the last tick taken or none of them is allowed
+abbrev pub Joined : Grades → ℕ → ℕ → Option Grades → Type 0
+Joined s t mask r =
+    MatchOption r (Above s.last t → bit_and s.mask mask ≡ 0)
+    (λ j. Above s.last t × (j.mask ≡ bit_and s.mask mask) × (j.last ≡ Some t))

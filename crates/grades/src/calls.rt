@@ -4,11 +4,13 @@ ghost use Rattle.family.specs.Readings.{reading, Above};
 ghost use Rattle.family.specs.Refusing.{Answered, row_refusal};
 ghost use Rattle.family.specs.Meaning.{refusal, Next};
 ghost use Rattle.grades.specs.Bit.{bit};
-ghost use Rattle.grades.specs.GradeMasks.{grades_meaning, mask_wrong, mask_of, lowest};
+ghost use Rattle.grades.specs.GradeMasks.{Joined, grades_meaning, mask_wrong, mask_of, lowest};
 ghost use Rattle.grades.specs.Keeps.{grades_laws};
 
 use super::Grades;
-use family::{Family, check_length, check_tick, clear, is_above, read_word};
+use family::{
+    Family, Span, check_length, check_tick, clear, is_above, read_pick, read_word, write_pick,
+};
 use words::{Kind, Reason, Refusal, Word};
 
 // All 28 grades.
@@ -53,22 +55,18 @@ impl Grades {
         }
     }
 
-    // Whether the tick is above the last one taken and some allowed grade is in the mask.
-    fn joins(&self, tick: u32, mask: u32) -> bool
-        ensures { Decides result (Above self.now.last tick × (0 < bit_and self.now.mask mask)) }
+    // The state with the grades of a mask taken at a tick: none where the tick is not above the last one taken or no allowed
+    // grade is among them.
+    fn joined(&self, tick: u32, mask: u32) -> Option<Grades>
+        ensures { Joined self.now tick mask result }
     {
-        is_above(self.last, tick) && self.mask & mask != 0
-    }
-
-    // The grades that were allowed and are in the mask.
-    fn narrowed(&self, tick: u32, mask: u32) -> Grades
-        requires { 0 < bit_and self.now.mask mask }
-        ensures { (result.mask ≡ bit_and self.now.mask mask) × (result.last ≡ Some tick) }
-    {
-        Grades {
+        if !is_above(self.last, tick) || self.mask & mask == 0 {
+            return None;
+        }
+        Some(Grades {
             mask: self.mask & mask,
             last: Some(tick),
-        }
+        })
     }
 
     // The state after taking the reading: none where it does not fit.
@@ -76,11 +74,7 @@ impl Grades {
         ensures { Answered (refusal grades_meaning (reading tick row.now)) result (Next grades_meaning self.now (reading tick row.now)) }
     {
         let mask = read_mask(tick, row)?;
-        if self.joins(tick, mask) {
-            Ok(Some(self.narrowed(tick, mask)))
-        } else {
-            Ok(None)
-        }
+        Ok(self.joined(tick, mask))
     }
 
     // The lowest-numbered grade still allowed.
@@ -126,38 +120,24 @@ impl Family for Grades {
     }
 
     fn take(&mut self, tick: u32, row: &[u32]) -> Result<(), Refusal> {
-        match self.next(tick, row)? {
-            Some(next) => {
-                *self = next;
-                Ok(())
-            }
-            None => Err(Refusal::new(Reason::Unfitting)),
-        }
-    }
-
-    fn pick(&self, slot: &mut [u32]) -> Result<(), Refusal> {
-        check_length(1, slot.len(), Reason::WordsLength)?;
-        slot[0] = Word::new(Kind::Grade, self.lowest() as i32).unwrap().bits();
+        *self = self
+            .next(tick, row)?
+            .ok_or(Refusal::new(Reason::Unfitting))?;
         Ok(())
     }
 
-    fn check(words: &[u32], _first: u32, _last: u32) -> Result<(), Refusal> {
-        check_length(1, words.len(), Reason::WordsLength)?;
-        match Kind::Grade.read(words[0]) {
-            Some(_) => Ok(()),
-            None => Err(Refusal::new(Reason::Unlawful)),
-        }
+    fn pick(&self, slot: &mut [u32]) -> Result<(), Refusal> {
+        write_pick(slot, Word::new(Kind::Grade, self.lowest() as i32).unwrap())
     }
 
-    fn value(
-        words: &[u32],
-        first: u32,
-        last: u32,
-        tick: u32,
-        row: &mut [u32],
-    ) -> Result<(), Refusal> {
+    fn check(words: &[u32], _span: Span) -> Result<(), Refusal> {
+        let _ = read_pick(Kind::Grade, words)?;
+        Ok(())
+    }
+
+    fn value(words: &[u32], span: Span, tick: u32, row: &mut [u32]) -> Result<(), Refusal> {
         clear(row);
-        Self::check_value(words, first, last, tick, row.len())?;
+        Self::check_value(words, span, tick, row.len())?;
         row[0] = words[0];
         Ok(())
     }

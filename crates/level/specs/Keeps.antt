@@ -15,10 +15,10 @@ use Rattle.level.specs.Levels.{level_meaning, level_picked, Choice, middle, midd
 
 -- the ends of what a state allows, as choices
 lowest : Level → Choice
-lowest s = record { at = s.low; low = s.bottom; high = (let o = s.order in let t = s.top in omega (arith, ints)) }
+lowest s = record { at = s.allowed.low; low = s.bottom; high = (let o = s.order in let t = s.top in omega (arith, ints)) }
 
 highest : Level → Choice
-highest s = record { at = s.high; low = (let o = s.order in let b = s.bottom in omega (arith, ints)); high = s.top }
+highest s = record { at = s.allowed.high; low = (let o = s.order in let b = s.bottom in omega (arith, ints)); high = s.top }
 
 reached : (a b c d : ℤ) → a ≤ℤ b → b ≤ℤ a → c ≤ℤ d → d ≤ℤ c → a +ℤ c ≡ b +ℤ d
 reached a b c d h i j k = omega (arith, ints)
@@ -38,7 +38,7 @@ same_middle s t h =
     let b = (h.allow (lowest t)).1 (at_low t) in
     let c = (h.allow (highest s)).0 (at_high s) in
     let d = (h.allow (highest t)).1 (at_high t) in
-    ap (λ (z : ℤ). int_div_euclid z (pos 2)) (reached s.low t.low s.high t.high b.0 a.0 c.1 d.1)
+    ap (λ (z : ℤ). int_div_euclid z (pos 2)) (reached s.allowed.low t.allowed.low s.allowed.high t.allowed.high b.0 a.0 c.1 d.1)
 
 pub level_laws : Laws level_meaning
 level_laws = record {

@@ -4,24 +4,12 @@ ghost use Rattle.family.specs.Bands.{low_of, high_of};
 ghost use Rattle.family.specs.Readings.{reading, Above};
 ghost use Rattle.family.specs.Refusing.{Answered};
 ghost use Rattle.family.specs.Meaning.{refusal, Next};
-ghost use Rattle.level.specs.Levels.{level_meaning, middle};
+ghost use Rattle.level.specs.Levels.{Joined, level_meaning, middle};
 ghost use Rattle.level.specs.Keeps.{level_laws};
 
 use super::Level;
-use family::{Band, Family, check_length, check_tick, clear, is_above};
+use family::{Band, Family, Span, clear, is_above, read_pick, write_pick};
 use words::{Kind, Reason, Refusal, Word};
-
-// The band of a reading; refuses by 5, 1, 2, and by 3 where low is above high.
-fn read_band(tick: u32, row: &[u32]) -> Result<Band, Refusal>
-    ensures { Answered (refusal level_meaning (reading tick row.now)) result (λ b. (b.low ≤ℤ b.high) × (b.low ≡ low_of row.now) × (b.high ≡ high_of row.now)) }
-{
-    check_tick(tick)?;
-    let band = Band::read(row)?;
-    if band.high < band.low {
-        return Err(Refusal::new(Reason::NoChoice));
-    }
-    Ok(band)
-}
 
 // Half of a sum, rounded down.
 fn halved(sum: i32) -> i32
@@ -36,49 +24,42 @@ impl Level {
         ensures { level_meaning.restarted result }
     {
         Level {
-            low: -1_000_000,
-            high: 1_000_000,
+            allowed: Band {
+                low: -1_000_000,
+                high: 1_000_000,
+            },
             last: None,
         }
     }
 
-    // Whether the tick is above the last one taken and some allowed level lies in the band.
-    fn joins(&self, tick: u32, band: Band) -> bool
-        ensures { Decides result (Above self.now.last tick × (band.low ≤ℤ self.now.high) × (self.now.low ≤ℤ band.high)) }
+    // The state with the levels of a band taken at a tick: none where the tick is not above the last one taken or no allowed level is among them.
+    fn joined(&self, tick: u32, band: Band) -> Option<Level>
+        ensures { Joined self.now tick band result }
     {
-        is_above(self.last, tick) && band.low <= self.high && self.low <= band.high
-    }
-
-    // The levels that were allowed and lie in the band.
-    fn narrowed(&self, tick: u32, band: Band) -> Level
-        requires { (band.low ≤ℤ band.high) × ((band.low ≤ℤ self.now.high) × (self.now.low ≤ℤ band.high)) }
-        ensures { (result.low ≡ int_max self.now.low band.low) × (result.high ≡ int_min self.now.high band.high) × (result.last ≡ Some tick) }
-    {
-        Level {
-            low: self.low.max(band.low),
-            high: self.high.min(band.high),
-            last: Some(tick),
+        if !is_above(self.last, tick) {
+            return None;
         }
+        let allowed = self.allowed.shared(band)?;
+        Some(Level {
+            allowed,
+            last: Some(tick),
+        })
     }
 
     // The state after taking the reading: none where it does not fit.
     fn next(&self, tick: u32, row: &[u32]) -> Result<Option<Level>, Refusal>
         ensures { Answered (refusal level_meaning (reading tick row.now)) result (Next level_meaning self.now (reading tick row.now)) }
     {
-        let band = read_band(tick, row)?;
-        if self.joins(tick, band) {
-            Ok(Some(self.narrowed(tick, band)))
-        } else {
-            Ok(None)
-        }
+        let band = Band::of_reading(tick, row)?;
+        Ok(self.joined(tick, band))
     }
 
     // The level picked: the middle of those allowed, rounded down.
     fn middle(&self) -> i32
         ensures value { result ≡ middle self.now }
-        ensures rounded { ((result +ℤ result) ≤ℤ (self.now.low +ℤ self.now.high)) × ((self.now.low +ℤ self.now.high) ≤ℤ ((result +ℤ result) +ℤ pos 1)) }
+        ensures rounded { ((result +ℤ result) ≤ℤ (self.now.allowed.low +ℤ self.now.allowed.high)) × ((self.now.allowed.low +ℤ self.now.allowed.high) ≤ℤ ((result +ℤ result) +ℤ pos 1)) }
     {
-        halved(self.low + self.high)
+        halved(self.allowed.low + self.allowed.high)
     }
 }
 
@@ -114,38 +95,24 @@ impl Family for Level {
     }
 
     fn take(&mut self, tick: u32, row: &[u32]) -> Result<(), Refusal> {
-        match self.next(tick, row)? {
-            Some(next) => {
-                *self = next;
-                Ok(())
-            }
-            None => Err(Refusal::new(Reason::Unfitting)),
-        }
-    }
-
-    fn pick(&self, slot: &mut [u32]) -> Result<(), Refusal> {
-        check_length(1, slot.len(), Reason::WordsLength)?;
-        slot[0] = Word::new(Kind::Level, self.middle()).unwrap().bits();
+        *self = self
+            .next(tick, row)?
+            .ok_or(Refusal::new(Reason::Unfitting))?;
         Ok(())
     }
 
-    fn check(words: &[u32], _first: u32, _last: u32) -> Result<(), Refusal> {
-        check_length(1, words.len(), Reason::WordsLength)?;
-        match Kind::Level.read(words[0]) {
-            Some(_) => Ok(()),
-            None => Err(Refusal::new(Reason::Unlawful)),
-        }
+    fn pick(&self, slot: &mut [u32]) -> Result<(), Refusal> {
+        write_pick(slot, Word::new(Kind::Level, self.middle()).unwrap())
     }
 
-    fn value(
-        words: &[u32],
-        first: u32,
-        last: u32,
-        tick: u32,
-        row: &mut [u32],
-    ) -> Result<(), Refusal> {
+    fn check(words: &[u32], _span: Span) -> Result<(), Refusal> {
+        let _ = read_pick(Kind::Level, words)?;
+        Ok(())
+    }
+
+    fn value(words: &[u32], span: Span, tick: u32, row: &mut [u32]) -> Result<(), Refusal> {
         clear(row);
-        Self::check_value(words, first, last, tick, row.len())?;
+        Self::check_value(words, span, tick, row.len())?;
         row[0] = words[0];
         Ok(())
     }
