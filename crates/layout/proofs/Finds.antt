@@ -1,9 +1,7 @@
 -- The search for a tick, one record on.
-use Rattle.std.proofs.Common.{◌≡◌, ℕ, zero, suc, ◌+◌, ◌-◌, ◌<◌, Bool, true, false, cond, ◌&&◌, List, is_ok, Ok, Err, Result, sym, refl, ap, ◌∙◌, arith}
-use Rattle.words.specs.declared.refusal.Reason.TheVariants.{Unlawful, WordsLength}
-use Rattle.words.specs.declared.refusal.Refusal.{Refusal}
+use Rattle.std.proofs.Common.{◌≡◌, ℕ, zero, suc, ◌+◌, ◌-◌, ◌<◌, Bool, cond, List, Ok, Err, sym, ap, ◌∙◌, arith}
+use Rattle.words.specs.declared.refusal.Reason.TheVariants.{Unlawful}
 use Rattle.words.specs.Refusals.{refusal_at}
-use Rattle.family.specs.Refusing.{Passed, first_refusal, refuse_unless}
 use Rattle.family.specs.Meaning.{Meaning}
 use Rattle.layout.specs.Layout.{place_at, record_at}
 use Rattle.layout.specs.Records.{record_lawful, record_spans, find}
@@ -24,12 +22,3 @@ module _ {S : Type 0} (m : Meaning S) (w : ℕ) (store : List ℕ) (t : ℕ) whe
       ∙ ap (λ (x : List ℕ). cond (record_lawful m x) (cond (record_spans x t) (Ok i) (find m w store t (left - 1) (i + 1))) (Err (refusal_at Unlawful (place_at w i)))) (sym is)
       ∙ ap (λ (x : Bool). cond x (cond (record_spans ws t) (Ok i) (find m w store t (left - 1) (i + 1))) (Err (refusal_at Unlawful (place_at w i)))) (sym ea)
       ∙ ap (λ (x : Bool). cond a (cond x (Ok i) (find m w store t (left - 1) (i + 1))) (Err (refusal_at Unlawful (place_at w i)))) (sym eb)
-
--- pick words pass their check exactly where their length is right and they are lawful
-pub passed_is : (a b : Bool) (r : Result Unit Refusal) → Passed (first_refusal (refuse_unless a WordsLength) (refuse_unless b Unlawful)) r → is_ok r ≡ (a && b)
-passed_is true true (Ok u) h = refl
-passed_is true true (Err f) h = grind arith
-passed_is true false (Ok u) h = let z = h.0 in grind arith
-passed_is true false (Err f) h = refl
-passed_is false b (Ok u) h = let z = h.0 in grind arith
-passed_is false b (Err f) h = refl

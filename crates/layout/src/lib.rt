@@ -1,7 +1,13 @@
 // Where the words of a tape stand in a store, and how its records are read. The recorder and the reader of closed tapes
 // both stand on it; it knows no family by name.
+//
+// `places` and `place_at` say where records stand, `Record` is one record by its words, and `Records` are those of a tape.
 #![tactic(auto)]
 
+mod record;
 mod records;
+mod room;
 
-pub use records::{check_record, find, in_span, place_at, places, record_at};
+pub use record::{Record, word_at};
+pub use records::Records;
+pub use room::{place_at, places};

@@ -1,9 +1,9 @@
 ghost use Rattle.reader.specs.Items.{IsItem, CheckedItem, ItemRead};
 
-use super::tape::{check, told_count, word_at};
+use super::tape::{check, told_records};
 use family::Family;
-use layout::{place_at, record_at};
-use words::{Kind, Reason, Refusal};
+use layout::Records;
+use words::{Reason, Refusal};
 
 // A record of a tape: the index of its first word in the store, and its own words there.
 #[derive(Clone, Copy)]
@@ -15,29 +15,25 @@ pub enum Item<'a> {
 }
 
 // The record of an index as an item: the start of a batch where its first word is BATCH, else a continuation.
-fn item_of<'a>(store: &'a [u32], width: u16, index: u32) -> Item<'a>
-    ensures { IsItem width store.now index result }
+fn item_of<'a>(records: &Records<'a>, index: u32) -> Item<'a>
+    ensures { IsItem records.now.width records.now.store.now index result }
 {
-    let place = place_at(width, index);
-    let words = record_at(store, width, index);
-    if Kind::Batch.names(word_at(words, 0)) {
+    let place = records.place_at(index);
+    let record = records.at(index);
+    let words = record.words;
+    if record.begins_batch() {
         Item::BatchStart { place, words }
     } else {
         Item::Continuation { place, words }
     }
 }
 
-// The item of an index among `count` records; refuses by 7 an index that is not among them. It checks no word.
-pub(crate) fn item_among<'a>(
-    store: &'a [u32],
-    width: u16,
-    count: u32,
-    index: u32,
-) -> Result<Item<'a>, Refusal>
-    ensures { CheckedItem width store.now count index result }
+// The item of an index among the records; refuses by 7 an index that is not among them. It checks no word.
+pub(crate) fn item_among<'a>(records: &Records<'a>, index: u32) -> Result<Item<'a>, Refusal>
+    ensures { CheckedItem records.now.width records.now.store.now records.now.count index result }
 {
-    if index < count {
-        Ok(item_of(store, width, index))
+    if index < records.count {
+        Ok(item_of(records, index))
     } else {
         Err(Refusal::new(Reason::NoSegment))
     }
@@ -49,5 +45,5 @@ pub fn item_at<'a, F: Family>(store: &'a [u32], index: u32) -> Result<Item<'a>, 
     ensures { ItemRead F.Family.meaning store.now index result }
 {
     check::<F>(store)?;
-    item_among(store, F::pick_width(), told_count(store), index)
+    item_among(&told_records::<F>(store), index)
 }

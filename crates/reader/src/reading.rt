@@ -2,7 +2,7 @@ ghost use Rattle.std.specs.Prelude.{◌≡◌};
 ghost use Rattle.reader.specs.Reads.{ValueRead};
 ghost use Rattle.reader.specs.Spans.{located_in};
 
-use super::tape::{check, told_count};
+use super::tape::{check, told_records};
 use super::walk::{check_request, find_span, read_found};
 use family::Family;
 use words::Refusal;
@@ -13,7 +13,7 @@ fn locate_in<F: Family>(store: &[u32], tick: u32, len: usize) -> Result<u32, Ref
 {
     check_request::<F>(len, tick)?;
     check::<F>(store)?;
-    find_span(store, F::pick_width(), told_count(store), tick)
+    find_span(&told_records::<F>(store), tick)
 }
 
 // Checks the words and reads the value at the tick into the row. Refuses by 9 a row of a wrong length, by 5 a tick out of
@@ -22,5 +22,5 @@ pub fn value<F: Family>(store: &[u32], tick: u32, row: &mut [u32]) -> Result<(),
     ensures { ValueRead F.Family.meaning store.now tick row.old result row.new }
 {
     let found = locate_in::<F>(store, tick, row.len());
-    read_found::<F>(found, store, F::pick_width(), tick, row)
+    read_found::<F>(&told_records::<F>(store), found, tick, row)
 }

@@ -7,18 +7,11 @@ ghost use Rattle.layout.specs.Records.{record_lawful};
 ghost use Rattle.reader.specs.Tapes.{told_count, follows, records_fault, tape_fault, refuse_tape, LawfulTape};
 
 use family::Family;
-use layout::{check_record, place_at, places, record_at};
+use layout::{Record, Records, places, word_at};
 use words::{Kind, Reason, Refusal, payload};
 
-// The word at an index, and 0 past the end.
-pub(crate) fn word_at(words: &[u32], index: usize) -> u32
-    ensures { result ≡ slice_index words.now index }
-{
-    if index < words.len() { words[index] } else { 0 }
-}
-
 // The number of records that a tape's second word tells.
-pub(crate) fn told_count(store: &[u32]) -> u32
+fn told_count(store: &[u32]) -> u32
     ensures { result ≡ told_count store.now }
 {
     payload(word_at(store, 1))
@@ -28,7 +21,7 @@ pub(crate) fn told_count(store: &[u32]) -> u32
 fn tape_word(width: u16) -> u32
     ensures { result ≡ tape_word width }
 {
-    Kind::Tape.number() * 0x1000_0000 + width.min(13) as u32
+    Kind::Tape.with_payload(width.min(13) as u32)
 }
 
 // Whether the first word is TAPE with the width.
@@ -47,34 +40,47 @@ fn has_count(store: &[u32], width: u16) -> bool
         && told_count(store) <= places(width, store.len())
 }
 
+// The records that a tape tells of, for the family.
+pub(crate) fn told_records<'a, F: Family>(store: &'a [u32]) -> Records<'a>
+    ensures store { result.store.now ≡ store.now }
+    ensures width { result.width ≡ F.Family.meaning.pick_width }
+    ensures count { result.count ≡ told_count store.now }
+{
+    Records {
+        store,
+        width: F::pick_width(),
+        count: told_count(store),
+    }
+}
+
 // Whether a record may stand after the END before it: the first one begins with BATCH, each other one after that tick.
-fn is_after(before: Option<u32>, words: &[u32]) -> bool
-    ensures { result ≡ follows before words.now }
+fn is_after(before: Option<u32>, next: &Record<'_>) -> bool
+    ensures { result ≡ follows before next.now.words.now }
 {
     match before {
-        None => Kind::Batch.names(word_at(words, 0)),
-        Some(last) => last < payload(word_at(words, 0)),
+        None => next.begins_batch(),
+        Some(last) => last < next.span().first,
     }
 }
 
 // Whether a record's words are lawful, and may stand after the END before it.
-fn is_next<F: Family>(before: Option<u32>, words: &[u32]) -> bool
-    ensures { result ≡ (follows before words.now && record_lawful F.Family.meaning words.now) }
+fn is_next<F: Family>(before: Option<u32>, next: &Record<'_>) -> bool
+    ensures { result ≡ (follows before next.now.words.now && record_lawful F.Family.meaning next.now.words.now) }
 {
-    is_after(before, words) && check_record::<F>(words)
+    is_after(before, next) && next.is_lawful::<F>()
 }
 
-// The place of the first of `count` records that breaks a rule, if one does.
-fn fault_in_records<F: Family>(store: &[u32], width: u16, count: u32) -> Option<usize>
-    ensures { result ≡ records_fault F.Family.meaning width store.now count 0 None }
+// The place of the first of the records that breaks a rule, if one does.
+fn fault_in_records<F: Family>(records: &Records<'_>) -> Option<usize>
+    ensures { result ≡ records_fault F.Family.meaning records.now.width records.now.store.now records.now.count 0 None }
 {
     let mut before = None;
-    for index in 0..count {
-        let words = record_at(store, width, index);
-        if !is_next::<F>(before, words) {
-            return Some(place_at(width, index));
+    for index in 0..records.count {
+        let record = records.at(index);
+        if !is_next::<F>(before, &record) {
+            return Some(records.place_at(index));
         }
-        before = Some(payload(word_at(words, 1)));
+        before = Some(record.span().last);
     }
     None
 }
@@ -91,7 +97,7 @@ fn fault<F: Family>(store: &[u32]) -> Option<usize>
     if !has_count(store, width) {
         return Some(1);
     }
-    fault_in_records::<F>(store, width, told_count(store))
+    fault_in_records::<F>(&told_records::<F>(store))
 }
 
 // Whether the words are a lawful tape of the family: refuses by 11, at the lowest place that breaks a rule, words that are

@@ -5,63 +5,41 @@ ghost use Rattle.layout.specs.Records.{record_spans};
 ghost use Rattle.reader.specs.Reads.{AnswersRow, row_tick_refusal};
 ghost use Rattle.reader.specs.Spans.{find_span, record_value, span_value, located};
 
-use super::tape::word_at;
 use family::{Family, check_length, check_tick, clear};
-use layout::{in_span, record_at};
-use words::{Reason, Refusal, payload};
+use layout::{Record, Records};
+use words::{Reason, Refusal};
 
-// Whether a record's two ticks span the tick.
-fn is_spanning(words: &[u32], tick: u32) -> bool
-    ensures { result ≡ record_spans words.now tick }
+// The first of the records whose two ticks span the tick. It looks at ticks alone; refuses by 7 where none spans it.
+pub(crate) fn find_span(records: &Records<'_>, tick: u32) -> Result<u32, Refusal>
+    ensures { result ≡ find_span records.now.width records.now.store.now tick records.now.count 0 }
 {
-    in_span(payload(word_at(words, 0)), payload(word_at(words, 1)), tick)
-}
-
-// The first of `count` records whose two ticks span the tick. It looks at ticks alone; refuses by 7 where none spans it.
-pub(crate) fn find_span(store: &[u32], width: u16, count: u32, tick: u32) -> Result<u32, Refusal>
-    ensures { result ≡ find_span width store.now tick count 0 }
-{
-    for index in 0..count {
-        if is_spanning(record_at(store, width, index), tick) {
+    for index in 0..records.count {
+        if records.at(index).spans(tick) {
             return Ok(index);
         }
     }
     Err(Refusal::new(Reason::NoSegment))
 }
 
-// A record's pick words.
-fn pick_of(words: &[u32]) -> &[u32]
-    ensures { result.now ≡ pick_in words.now }
-{
-    &words[words.len().min(2)..words.len()]
-}
-
 // Reads the value at the tick from a record's words; refuses by 9, 5, 11, 7. A refusal leaves every word of the row 0.
-fn read_record<F: Family>(words: &[u32], tick: u32, row: &mut [u32]) -> Result<(), Refusal>
-    ensures { AnswersRow (record_value F.Family.meaning words.now tick (length row.old)) row.old result row.new }
+fn read_record<F: Family>(from: &Record<'_>, tick: u32, row: &mut [u32]) -> Result<(), Refusal>
+    ensures { AnswersRow (record_value F.Family.meaning from.now.words.now tick (length row.old)) row.old result row.new }
 {
-    F::value(
-        pick_of(words),
-        payload(word_at(words, 0)),
-        payload(word_at(words, 1)),
-        tick,
-        row,
-    )
+    F::value(from.pick(), from.span(), tick, row)
 }
 
 // Reads the value at the tick from the record that was found, or passes its refusal on. A refusal leaves every word of
 // the row 0.
 pub fn read_found<F: Family>(
+    records: &Records<'_>,
     found: Result<u32, Refusal>,
-    store: &[u32],
-    width: u16,
     tick: u32,
     row: &mut [u32],
 ) -> Result<(), Refusal>
-    ensures { AnswersRow (span_value F.Family.meaning width store.now tick (length row.old) found) row.old result row.new }
+    ensures { AnswersRow (span_value F.Family.meaning records.now.width records.now.store.now tick (length row.old) found) row.old result row.new }
 {
     match found {
-        Ok(index) => read_record::<F>(record_at(store, width, index), tick, row),
+        Ok(index) => read_record::<F>(&records.at(index), tick, row),
         Err(refusal) => {
             clear(row);
             Err(refusal)
@@ -77,16 +55,14 @@ pub fn check_request<F: Family>(len: usize, tick: u32) -> Result<(), Refusal>
     check_tick(tick)
 }
 
-// The record of checked words that answers for the tick into a row of `len` words; refuses by 9, 5, 7.
+// The record of a checked tape that answers for the tick into a row of `len` words; refuses by 9, 5, 7.
 pub(crate) fn locate<F: Family>(
-    store: &[u32],
-    width: u16,
-    count: u32,
+    records: &Records<'_>,
     tick: u32,
     len: usize,
 ) -> Result<u32, Refusal>
-    ensures { result ≡ located F.Family.meaning width store.now count tick len }
+    ensures { result ≡ located F.Family.meaning records.now.width records.now.store.now records.now.count tick len }
 {
     check_request::<F>(len, tick)?;
-    find_span(store, width, count, tick)
+    find_span(records, tick)
 }

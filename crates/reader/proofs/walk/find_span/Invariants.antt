@@ -3,4 +3,4 @@ use Rattle.reader.specs.Spans.{find_span}
 use Rattle.reader.proofs.walk.find_span.Given as goal
 
 abbrev pub invariant-loop-index : goal.invariant-loop-index
-invariant-loop-index l = find_span l.width l.store l.tick (l.count - l.index) l.index ≡ find_span l.width l.store l.tick l.count 0
+invariant-loop-index l = find_span l.records.width l.records.store.now l.tick (l.records.count - l.index) l.index ≡ find_span l.records.width l.records.store.now l.tick l.records.count 0
