@@ -1,5 +1,5 @@
 -- What asking answers, from what its calls ensure.
-use Rattle.std.proofs.Common.{◌≡◌, ℕ, ◌<◌, Bool, true, false, ◌&&◌, eqb, List, length, replicate, IfOk, Some, None, Ok, Err, Option, Result, sym, refl, ap, ◌∙◌, subst, arith, eqb-true}
+use Rattle.std.proofs.Common.{◌≡◌, ℕ, ◌<◌, Bool, true, false, ◌&&◌, eqb, List, IfOk, None, Ok, Err, Option, Result, refl, ap, ◌∙◌, subst, arith, eqb-true}
 use Rattle.std.proofs.lemmas.Bool.{and_parts, cond-false}
 use Rattle.words.specs.declared.refusal.Reason.TheVariants.{OtherStore}
 use Rattle.words.specs.declared.refusal.Refusal.{Refusal}
@@ -7,21 +7,13 @@ use Rattle.family.specs.Refusing.{first_refusal, refuse_unless, spans}
 use Rattle.family.specs.Meaning.{Meaning}
 use Rattle.layout.specs.Layout.{record_at}
 use Rattle.layout.specs.Records.{find, Found}
-use Rattle.reader.specs.Reads.{AnswersRow, unless_refused, row_tick_refusal, value_of}
+use Rattle.reader.specs.Reads.{row_tick_refusal, value_of}
 use Rattle.reader.specs.Spans.{span_value}
 use Rattle.reader.proofs.Same.{record_says, first_none}
 use Rattle.recorder.specs.declared.tape.Phase.{Phase}
 use Rattle.recorder.specs.declared.tape.Phase.TheVariants.{Fresh, Waiting, Running}
 use Rattle.recorder.specs.Steps.{View, opened_refusal}
 use Rattle.recorder.specs.Asking.{by_phase, records_value}
-
--- a refusal that is due, with the row cleared, and an answer where none is due
-pub refused_row : (o : Option Refusal) (f : Refusal) (x : Result (List ℕ) Refusal) (a : Result Unit Refusal) (row row' : List ℕ) → o ≡ Some f → a ≡ Err f → row' ≡ replicate (length row) 0 → AnswersRow (unless_refused o x) row a row'
-refused_row o f x a row row' e r z =
-    subst (λ (p : Option Refusal). AnswersRow (unless_refused p x) row a row') (sym e) (subst (λ (b : Result Unit Refusal). AnswersRow (Err f) row b row') (sym r) (refl, z))
-
-pub answered_row : (o : Option Refusal) (x : Result (List ℕ) Refusal) (a : Result Unit Refusal) (row row' : List ℕ) → o ≡ None → AnswersRow x row a row' → AnswersRow (unless_refused o x) row a row'
-answered_row o x a row row' e h = subst (λ (p : Option Refusal). AnswersRow (unless_refused p x) row a row') (sym e) h
 
 unless_passed : (b : Bool) → refuse_unless b OtherStore ≡ None → b ≡ true
 unless_passed true e = refl

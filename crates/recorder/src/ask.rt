@@ -8,8 +8,8 @@ ghost use Rattle.recorder.specs.Histories.{world, Asked, Dealt};
 ghost use Rattle.recorder.specs.Law.{LawAt};
 
 use super::tape::{OpenTape, Phase};
-use family::{Family, clear};
-use layout::{find, in_span};
+use family::{Family, Span, clear};
+use layout::Records;
 use reader::{check_request, read_found};
 use words::{Reason, Refusal};
 
@@ -17,21 +17,18 @@ use words::{Reason, Refusal};
 fn present<F: Family>(
     family: &F,
     slot: &mut [u32],
-    first: u32,
-    last: u32,
+    run: Span,
     tick: u32,
     row: &mut [u32],
 ) -> Result<(), Refusal>
-    requires wide { (length slot.old ≡ F.Family.meaning.pick_width) × (length slot.old ≤ 12) }
+    requires wide { length slot.old ≡ F.Family.meaning.pick_width }
+    requires narrow { length slot.old ≤ 12 }
     requires asked { row_tick_refusal F.Family.meaning (length row.old) tick ≡ None }
-    requires spanned { spans first last tick ≡ true }
-    ensures { AnswersRow (run_value F.Family.meaning (F.Family.meaning.words family.now) first last tick) row.old result row.new }
+    requires spanned { spans run.first run.last tick ≡ true }
+    ensures { AnswersRow (run_value F.Family.meaning (F.Family.meaning.words family.now) run.first run.last tick) row.old result row.new }
 {
     family.pick(slot)?;
-    match F::value(slot, first, last, tick, row) {
-        Ok(()) => Ok(()),
-        Err(_) => Err(Refusal::at(Reason::Unlawful, 1)),
-    }
+    F::value(slot, run, tick, row).map_err(|_| Refusal::at(Reason::Unlawful, 1))
 }
 
 // Refuses, with every word of the answer row 0.
@@ -63,26 +60,20 @@ impl OpenTape {
         requires { first_refusal (opened_refusal (view self.now) F.Family.meaning.pick_width (length store.now)) (row_tick_refusal F.Family.meaning (length row.old) tick) ≡ None }
         ensures { AnswersRow (by_phase F.Family.meaning self.now.phase family.now tick (records_value F.Family.meaning store.now self.now.written tick)) row.old result row.new }
     {
-        if let Phase::Running {
-            first,
-            last,
-            batch: _,
-        } = self.phase
-        {
-            if in_span(first, last, tick) {
+        if let Phase::Running { first, last, .. } = self.phase {
+            let run = Span { first, last };
+            if run.holds(tick) {
                 let mut slot = [0u32; 12];
-                return present(
-                    family,
-                    &mut slot[0..self.width as usize],
-                    first,
-                    last,
-                    tick,
-                    row,
-                );
+                return present(family, &mut slot[0..self.width as usize], run, tick, row);
             }
         }
-        let found = find::<F>(store, self.width, self.written, tick);
-        read_found::<F>(found, store, self.width, tick, row)
+        let records = Records {
+            store,
+            width: self.width,
+            count: self.written,
+        };
+        let found = records.find::<F>(tick);
+        read_found::<F>(&records, found, tick, row)
     }
 
     // Asks for the value at a tick: from the open run's present pick where it spans the tick, else from the tape's own

@@ -5,8 +5,7 @@ ghost use Rattle.recorder.specs.Steps.{view, opened_refusal, late_refusal, outco
 ghost use Rattle.recorder.specs.Recording.{event_of};
 
 use super::tape::{OpenTape, Phase};
-use super::write::write_record;
-use family::Family;
+use family::{Family, Span};
 use words::{Reason, Refusal};
 
 // What a call brings to a tape: a reading that fits the open run's state, one that does not, or a mark.
@@ -97,13 +96,13 @@ impl OpenTape {
                 if self.written + 1 >= self.places {
                     return Err(Refusal::new(Reason::NoPlace));
                 }
-                write_record(family, store, self.width, self.written, first, last, batch)?;
+                self.write_run(family, store, Span { first, last }, batch)?;
                 family.restart();
                 self.written += 1;
                 self.phase = begun(tick, false);
             }
             (Phase::Running { first, last, batch }, Event::Mark) => {
-                write_record(family, store, self.width, self.written, first, last, batch)?;
+                self.write_run(family, store, Span { first, last }, batch)?;
                 family.restart();
                 self.written += 1;
                 self.phase = Phase::Waiting { last };

@@ -3,16 +3,18 @@ ghost use Rattle.words.specs.Kinds.{in_range};
 ghost use Rattle.words.specs.Words.{word_of};
 ghost use Rattle.layout.specs.Layout.{first_word, count_word, with_record, opened_store};
 
-use family::Family;
+use super::tape::OpenTape;
+use family::{Family, Span};
 use layout::place_at;
 use words::{Kind, Refusal, Word};
 
 // The word of a kind that holds a number from 0 on.
 fn word(kind: Kind, number: u32) -> u32
-    requires { (in_range kind (pos number) ≡ true) × (number ≤ 268435455) }
+    requires held { in_range kind (pos number) ≡ true }
+    requires small { number ≤ 268435455 }
     ensures { result ≡ word_of kind (pos number) }
 {
-    Word::new(kind, number as i32).unwrap().bits()
+    u32::from(Word::new(kind, number as i32).unwrap())
 }
 
 // BATCH or START, by whether the record begins a batch.
@@ -39,34 +41,36 @@ pub(crate) fn write_header(store: &mut [u32], width: u16)
 
 // Sets COUNT to the records written.
 fn write_count(store: &mut [u32], count: u32)
-    requires { (1 < length store.old) × (count ≤ 1000000) }
+    requires room { 1 < length store.old }
+    requires few { count ≤ 1000000 }
     ensures { store.new ≡ slice_set store.old 1 (count_word count) }
 {
     store[1] = word(Kind::Count, count);
 }
 
-// Writes the open run as record `index`: the family picks its words into the middle of the store, and COUNT counts it.
-pub(crate) fn write_record<F: Family>(
-    family: &F,
-    store: &mut [u32],
-    width: u16,
-    index: u32,
-    first: u32,
-    last: u32,
-    batch: bool,
-) -> Result<(), Refusal>
-    requires few { index < 1000000 }
-    requires within { (index + 1) * (width + 2) ≤ length store.old - 2 }
-    requires wide { (width ≡ F.Family.meaning.pick_width) × (width ≤ 12) }
-    requires timely { (first ≤ 268435455) × (last ≤ 268435455) }
-    ensures answer { result ≡ Ok tt }
-    ensures words { store.new ≡ with_record width index first last batch (F.Family.meaning.words family.now) store.old }
-{
-    let at = place_at(width, index);
-    let end = at + 2 + width as usize;
-    family.pick(&mut store[at + 2..end])?;
-    store[at] = first_word(batch, first);
-    store[at + 1] = word(Kind::End, last);
-    write_count(store, index + 1);
-    Ok(())
+impl OpenTape {
+    // Writes the open run as the next record: the family picks its words into the middle of the store, and COUNT counts it.
+    pub(crate) fn write_run<F: Family>(
+        &self,
+        family: &F,
+        store: &mut [u32],
+        run: Span,
+        batch: bool,
+    ) -> Result<(), Refusal>
+        requires room { self.now.written < self.now.places }
+        requires long { length store.old ≡ self.now.length }
+        requires wide { self.now.width ≡ F.Family.meaning.pick_width }
+        requires first { run.first ≤ 268435455 }
+        requires last { run.last ≤ 268435455 }
+        ensures answer { result ≡ Ok tt }
+        ensures words { store.new ≡ with_record self.now.width self.now.written run.first run.last batch (F.Family.meaning.words family.now) store.old }
+    {
+        let at = place_at(self.width, self.written);
+        let end = at + 2 + self.width as usize;
+        family.pick(&mut store[at + 2..end])?;
+        store[at] = first_word(batch, run.first);
+        store[at + 1] = word(Kind::End, run.last);
+        write_count(store, self.written + 1);
+        Ok(())
+    }
 }

@@ -7,7 +7,7 @@ use Rattle.recorder.specs.Steps.{view}
 use Rattle.recorder.specs.Asking.{records_value}
 use Rattle.recorder.proofs.Asks.{by_rest, not_spanned, same_width, row_tick_fine, records_say}
 use Rattle.recorder.proofs.tape.OpenTape.answer.Goals as goal
-use Rattle.recorder.proofs.tape.OpenTape.answer.Goals.{in-Running+else-in_span, in_default}
+use Rattle.recorder.proofs.tape.OpenTape.answer.Goals.{in-Running+else-holds, in_default}
 
 pub returns : goal.returns
 returns g c =
@@ -22,7 +22,7 @@ returns g c =
     (same_width m (view tape) (length store) _ c.requires) (row_tick_fine m _ (length row) t c.requires) c.find-found.ensures.is c.find-found.ensures.found in
     let apart : (f l : ℕ) (b : Bool) → tape.phase ≡ Running f l b → spans f l t ≡ false =
     elim c.match-self.branch [
-      | in-Running+else-in_span w ↦ not_spanned m tape.phase w.in-Running.first w.in-Running.last w.in-Running.batch t w.in-Running.is (sym w.if-in_span.ensures)
+      | in-Running+else-holds w ↦ not_spanned m tape.phase w.in-Running.first w.in-Running.last w.in-Running.batch t w.in-Running.is (sym w.if-holds.ensures)
       | in_default w ↦ λ f l b e. absurd (w.in_default.not-Running f l b e)
     ] in
     subst (λ (x : Result (List ℕ) Refusal). AnswersRow x row c.read_found.result c.read_found.new.row)
