@@ -3,7 +3,7 @@
 
 #[cfg(test)]
 mod tests {
-    use family::{Family, extend};
+    use family::{Family, Span, extend};
     use grades::Grades;
     use level::Level;
     use std::test::Fail;
@@ -44,12 +44,12 @@ mod tests {
     #[test]
     fn boundary_words(rt: HostRuntime) -> Result<(), Fail> {
         for (kind, number, beyond, bits) in ENDS {
-            let Some(word) = Word::of_bits(bits) else {
+            let Ok(word) = Word::try_from(bits) else {
                 return Err(Fail::new("no word"));
             };
             assert_eq!(rt; word.kind, kind);
             assert_eq!(rt; word.number, number);
-            assert_eq!(rt; word.bits(), bits);
+            assert_eq!(rt; u32::from(word), bits);
             assert!(rt; Word::new(kind, number).is_some() && Word::new(kind, beyond).is_none());
         }
         Ok(())
@@ -68,7 +68,7 @@ mod tests {
             0xC000_001C,
             0xE000_000E,
         ] {
-            assert!(rt; Word::of_bits(bits).is_none());
+            assert!(rt; Word::try_from(bits).is_err());
         }
     }
 
@@ -80,16 +80,14 @@ mod tests {
         let Some(high) = Word::new(Kind::High, high) else {
             return Err(Fail::new("high is out of range"));
         };
-        Ok([low.bits(), high.bits()])
+        Ok([u32::from(low), u32::from(high)])
     }
 
     // What level picks after a run of bands at ticks 0, 1, ..
     fn level_of(bands: &[(i32, i32)]) -> Result<i32, Fail> {
         let mut level = Level::new();
-        let mut tick = 0u32;
-        for (low, high) in bands {
+        for (tick, (low, high)) in (0u32..).zip(bands) {
             extend(&mut level, tick, &band(*low, *high)?)?;
-            tick = tick.saturating_add(1);
         }
         let mut slot = [0u32; 1];
         level.pick(&mut slot)?;
@@ -147,10 +145,8 @@ mod tests {
     // What grades picks after a run of masks at ticks 0, 1, ..
     fn grade_of(masks: &[u32]) -> Result<u32, Fail> {
         let mut grades = Grades::new();
-        let mut tick = 0u32;
-        for mask in masks {
+        for (tick, mask) in (0u32..).zip(masks) {
             extend(&mut grades, tick, &[0x3000_0000 | *mask])?;
-            tick = tick.saturating_add(1);
         }
         let mut slot = [0u32; 1];
         grades.pick(&mut slot)?;
@@ -179,24 +175,27 @@ mod tests {
     #[test]
     fn values_are_read_from_words(rt: HostRuntime) {
         let mut row = [9u32; 1];
-        assert_eq!(rt; Level::value(&[0x701E_8481], 3, 5, 4, &mut row), Ok(()));
+        assert_eq!(rt;
+            Level::value(&[0x701E_8481], Span::new(3, 5), 4, &mut row),
+            Ok(())
+        );
         assert_eq!(rt; row, [0x701E_8481]);
         assert_eq!(rt;
-            Level::value(&[0x701E_8481], 3, 5, 6, &mut row),
+            Level::value(&[0x701E_8481], Span::new(3, 5), 6, &mut row),
             Err(Refusal::new(Reason::NoSegment))
         );
         assert_eq!(rt; row, [0]);
         assert_eq!(rt;
-            Level::value(&[0x101E_8481], 3, 5, 9, &mut row),
+            Level::value(&[0x101E_8481], Span::new(3, 5), 9, &mut row),
             Err(Refusal::new(Reason::Unlawful))
         );
         assert_eq!(rt;
-            Level::value(&[0x701E_8481], 5, 3, 4, &mut row),
+            Level::value(&[0x701E_8481], Span::new(5, 3), 4, &mut row),
             Err(Refusal::new(Reason::NoSegment))
         );
         let mut wide = [9u32; 2];
         assert_eq!(rt;
-            Level::value(&[0x701E_8481], 3, 5, 268_435_456, &mut wide),
+            Level::value(&[0x701E_8481], Span::new(3, 5), 268_435_456, &mut wide),
             Err(Refusal::new(Reason::WordsLength))
         );
         assert_eq!(rt; wide, [0, 0]);
