@@ -12,7 +12,8 @@ use Rattle.reader.specs.Spans.{span_value}
 use Rattle.reader.proofs.Same.{record_says, first_none}
 use Rattle.recorder.specs.declared.tape.Phase.{Phase}
 use Rattle.recorder.specs.declared.tape.Phase.TheVariants.{Fresh, Waiting, Running}
-use Rattle.recorder.specs.Steps.{View, opened_refusal}
+use Rattle.recorder.specs.Views.{View}
+use Rattle.recorder.specs.Steps.{opened_refusal}
 use Rattle.recorder.specs.Asking.{by_phase, records_value}
 
 unless_passed : (b : Bool) → refuse_unless b OtherStore ≡ None → b ≡ true

@@ -20,7 +20,8 @@ use Rattle.recorder.specs.declared.tape.Phase.{Phase}
 use Rattle.recorder.specs.declared.tape.Phase.TheVariants.{Fresh, Waiting, Running}
 use Rattle.recorder.specs.declared.step.Event.TheVariants.{Mark}
 use Rattle.recorder.specs.Phases.{running}
-use Rattle.recorder.specs.Steps.{View, Outcome, refused, begun, cut, outcome, outcome_of, opened_refusal, late_refusal, unless_due, answer_by, view_by, store_by, StateBy, opened_view}
+use Rattle.recorder.specs.Views.{View}
+use Rattle.recorder.specs.Steps.{Outcome, refused, begun, cut, outcome, outcome_of, opened_refusal, late_refusal, unless_due, answer_by, view_by, store_by, StateBy, opened_view}
 use Rattle.recorder.specs.Recording.{event_of, early_refusal, Began, By, RecordedBy}
 use Rattle.recorder.specs.Histories.{World, noted, parted, Opened, Marked, Dealt, opened as tape_opened, recorded, marked as tape_marked, asked_at}
 use Rattle.recorder.specs.Law.{Fit, not_above, batch_open, reading_refusal, HasNoPlace, RecordAnswer, MarkAnswer}

@@ -10,7 +10,8 @@ use Rattle.recorder.specs.declared.tape.Phase.{Phase}
 use Rattle.recorder.specs.declared.tape.Phase.TheVariants.{Fresh, Waiting, Running}
 use Rattle.recorder.specs.declared.tape.OpenTape.{OpenTape}
 use Rattle.recorder.specs.declared.tape.ClosedTape.{ClosedTape}
-use Rattle.recorder.specs.Steps.{View, Outcome, refused, longer, begun, cut, ended, idle, opened_refusal, unless_due, closing, outcome_of, view_by, view, Closes}
+use Rattle.recorder.specs.Views.{View}
+use Rattle.recorder.specs.Steps.{Outcome, refused, longer, begun, cut, ended, idle, opened_refusal, unless_due, closing, outcome_of, view_by, Closes}
 use Rattle.recorder.specs.Recording.{RecordedBy, early_refusal, event_of}
 use Rattle.recorder.specs.Histories.{World, world, Opened, Recorded, Marked, marking, closes}
 
@@ -39,7 +40,7 @@ sure v (Running _ _ _) (Ok _) h = refl
 sure v (Running _ _ _) (Err _) h = absurd h
 
 -- closing that is refused hands back the tape as it was
-closing_back : (v : View) (o : Outcome) (p : OpenTape × Refusal) → Closes v o (Err p) → Same v (view p.0)
+closing_back : (v : View) (o : Outcome) (p : OpenTape × Refusal) → Closes v o (Err p) → Same v p.0
 closing_back v (refused f) p h = subst (λ (x : View). Same v x) (sym h.0) (record { wide = refl; long = refl })
 closing_back v (longer _ _ _) p h = absurd h
 closing_back v (begun _) p h = absurd h
@@ -47,7 +48,7 @@ closing_back v (cut _ _ _ _) p h = absurd h
 closing_back v (ended _ _ _) p h = absurd h
 closing_back v idle p h = absurd h
 
-pub handed_back : (v : View) (o : Outcome) (a : Result ClosedTape (OpenTape × Refusal)) (p : OpenTape × Refusal) → a ≡ Err p → Closes v o a → Same v (view p.0)
+pub handed_back : (v : View) (o : Outcome) (a : Result ClosedTape (OpenTape × Refusal)) (p : OpenTape × Refusal) → a ≡ Err p → Closes v o a → Same v p.0
 handed_back v o a p e h = closing_back v o p (subst (λ (x : Result ClosedTape (OpenTape × Refusal)). Closes v o x) e h)
 
 module _ {S : Type 0} (m : Meaning S) where

@@ -28,7 +28,8 @@ use Rattle.recorder.specs.declared.tape.Phase.TheVariants.{Fresh, Waiting, Runni
 use Rattle.recorder.specs.declared.tape.OpenTape.{OpenTape}
 use Rattle.recorder.specs.declared.tape.ClosedTape.{ClosedTape}
 use Rattle.recorder.specs.Phases.{running}
-use Rattle.recorder.specs.Steps.{View, Outcome, store_by, closing as closing_by, Closes}
+use Rattle.recorder.specs.Views.{View}
+use Rattle.recorder.specs.Steps.{Outcome, store_by, closing as closing_by, Closes}
 use Rattle.recorder.specs.Asking.{asked, by_phase, records_value}
 use Rattle.recorder.specs.Histories.{World, noted, parted, Opened, Recorded, Marked, Asked, Closed, Dealt, opened as tape_opened, recorded, marked as tape_marked}
 use Rattle.recorder.specs.Law.{Span, span, written_spans, open_span, segments, inside, runs_in, Unspanned, Fit, reading_refusal, RecordAnswer, AskAnswer, Answers, LawAt, Law}

@@ -9,7 +9,8 @@ use Rattle.layout.specs.Records.{find}
 use Rattle.reader.specs.Reads.{unless_refused, row_tick_refusal, value_of}
 use Rattle.recorder.specs.declared.tape.Phase.{Phase}
 use Rattle.recorder.specs.declared.tape.Phase.TheVariants.{Fresh, Waiting, Running}
-use Rattle.recorder.specs.Steps.{View, opened_refusal}
+use Rattle.recorder.specs.Views.{View}
+use Rattle.recorder.specs.Steps.{opened_refusal}
 
 module _ {S : Type 0} (m : Meaning S) where
   -- the value of the open run's present pick: 11 at place 1 where the pick is unlawful for the run

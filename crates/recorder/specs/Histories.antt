@@ -9,7 +9,8 @@ use Rattle.reader.specs.Reads.{AnswersRow}
 use Rattle.recorder.specs.declared.tape.OpenTape.{OpenTape}
 use Rattle.recorder.specs.declared.tape.ClosedTape.{ClosedTape}
 use Rattle.recorder.specs.declared.step.Event.TheVariants.{Mark}
-use Rattle.recorder.specs.Steps.{View, Outcome, opened_view, opened_refusal, unless_due, outcome_of, closing, answer_by, view_by, store_by, StateBy, Closes}
+use Rattle.recorder.specs.Views.{View}
+use Rattle.recorder.specs.Steps.{Outcome, opened_view, opened_refusal, unless_due, outcome_of, closing, answer_by, view_by, store_by, StateBy, Closes}
 use Rattle.recorder.specs.Recording.{early_refusal, RecordedBy}
 use Rattle.recorder.specs.Asking.{asked}
 

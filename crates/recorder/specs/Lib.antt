@@ -4,3 +4,4 @@ pub mod Recording
 pub mod Asking
 pub mod Histories
 pub mod Law
+pub mod Views

@@ -6,7 +6,8 @@ use Rattle.family.specs.Refusing.{first_refusal}
 use Rattle.family.specs.Meaning.{Meaning, Fits, refusal}
 use Rattle.recorder.specs.declared.step.Event.{Event}
 use Rattle.recorder.specs.declared.step.Event.TheVariants.{Fitting, Unfitting}
-use Rattle.recorder.specs.Steps.{View, Outcome, refused, longer, begun, cut, ended, idle, opened_refusal, late_refusal, outcome_of, view_by, store_by}
+use Rattle.recorder.specs.Views.{View}
+use Rattle.recorder.specs.Steps.{Outcome, refused, longer, begun, cut, ended, idle, opened_refusal, late_refusal, outcome_of, view_by, store_by}
 
 abbrev pub event_of : Bool → ℕ → Event
 event_of true t = Fitting t

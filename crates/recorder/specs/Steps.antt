@@ -13,17 +13,7 @@ use Rattle.recorder.specs.declared.tape.ClosedTape.{ClosedTape}
 use Rattle.recorder.specs.declared.step.Event.{Event}
 use Rattle.recorder.specs.declared.step.Event.TheVariants.{Fitting, Unfitting, Mark}
 use Rattle.recorder.specs.Phases.{open_last}
-
--- an open tape's numbers
-pub record View : Type 0 where
-  pub width : ℕ
-  pub length : ℕ
-  pub places : ℕ
-  pub written : ℕ
-  pub phase : Phase
-
-abbrev pub view : OpenTape → View
-view t = record { width = t.width; length = t.length; places = t.places; written = t.written; phase = t.phase }
+use Rattle.recorder.specs.Views.{View}
 
 -- a tape just opened over a store of n words, for picks of width w
 abbrev pub opened_view : ℕ → ℕ → View
@@ -122,7 +112,7 @@ Timely q Mark = Unit {0}
 -- closing's answer: the closed tape with its number of segments, or the open tape back with the refusal
 abbrev pub Closes : View → Outcome → Result ClosedTape (OpenTape × Refusal) → Type 0
 Closes v (refused f) (Ok k) = ⊥
-Closes v (refused f) (Err p) = (view p.0 ≡ v) × (p.1 ≡ f)
+Closes v (refused f) (Err p) = (p.0 ≡ v) × (p.1 ≡ f)
 Closes v (longer _ _ _) r = ⊥
 Closes v (begun _) r = ⊥
 Closes v (cut _ _ _ _) r = ⊥

@@ -2,7 +2,7 @@ ghost use Rattle.std.specs.Prelude.{◌≡◌, ◌≤◌, true, List, length, re
 ghost use Rattle.cuttings.specs.Cutting.{Event as Logged};
 ghost use Rattle.family.specs.Refusing.{Passed, first_refusal, spans};
 ghost use Rattle.reader.specs.Reads.{AnswersRow, row_tick_refusal};
-ghost use Rattle.recorder.specs.Steps.{view, opened_refusal};
+ghost use Rattle.recorder.specs.Steps.{opened_refusal};
 ghost use Rattle.recorder.specs.Asking.{run_value, by_phase, records_value};
 ghost use Rattle.recorder.specs.Histories.{world, Asked, Dealt};
 ghost use Rattle.recorder.specs.Law.{LawAt};
@@ -43,7 +43,7 @@ fn refuse(row: &mut [u32], refusal: Refusal) -> Result<(), Refusal>
 impl OpenTape {
     // The checks of asking: 8, 9, 5.
     fn may_ask<F: Family>(&self, store: &[u32], len: usize, tick: u32) -> Result<(), Refusal>
-        ensures { Passed (first_refusal (opened_refusal (view self.now) F.Family.meaning.pick_width (length store.now)) (row_tick_refusal F.Family.meaning len tick)) result }
+        ensures { Passed (first_refusal (opened_refusal self.now F.Family.meaning.pick_width (length store.now)) (row_tick_refusal F.Family.meaning len tick)) result }
     {
         self.as_opened::<F>(store)?;
         check_request::<F>(len, tick)
@@ -57,7 +57,7 @@ impl OpenTape {
         tick: u32,
         row: &mut [u32],
     ) -> Result<(), Refusal>
-        requires { first_refusal (opened_refusal (view self.now) F.Family.meaning.pick_width (length store.now)) (row_tick_refusal F.Family.meaning (length row.old) tick) ≡ None }
+        requires { first_refusal (opened_refusal self.now F.Family.meaning.pick_width (length store.now)) (row_tick_refusal F.Family.meaning (length row.old) tick) ≡ None }
         ensures { AnswersRow (by_phase F.Family.meaning self.now.phase family.now tick (records_value F.Family.meaning store.now self.now.written tick)) row.old result row.new }
     {
         if let Phase::Running { first, last, .. } = self.phase {
@@ -86,8 +86,8 @@ impl OpenTape {
         tick: u32,
         row: &mut [u32],
     ) -> Result<(), Refusal>
-        ensures is { Asked F.Family.meaning (world (view self.now) family.now store.now) tick row.old result row.new }
-        ensures law { (log : List Logged) → Dealt F.Family.meaning log (world (view self.now) family.now store.now) → LawAt F.Family.meaning log (world (view self.now) family.now store.now) }
+        ensures is { Asked F.Family.meaning (world self.now family.now store.now) tick row.old result row.new }
+        ensures law { (log : List Logged) → Dealt F.Family.meaning log (world self.now family.now store.now) → LawAt F.Family.meaning log (world self.now family.now store.now) }
     {
         if let Err(refusal) = self.may_ask::<F>(store, row.len(), tick) {
             return refuse(row, refusal);

@@ -1,7 +1,6 @@
 ghost use Rattle.std.specs.Prelude.{◌≡◌, List, [], length};
 ghost use Rattle.cuttings.specs.Cutting.{Event as Logged};
 ghost use Rattle.family.specs.Readings.{reading};
-ghost use Rattle.recorder.specs.Steps.{view};
 ghost use Rattle.recorder.specs.Recording.{early_refusal, RecordedBy};
 ghost use Rattle.recorder.specs.Histories.{world, noted, parted, Opened, Recorded, Marked, Closed, Dealt};
 ghost use Rattle.recorder.specs.Law.{Law, LawAt};
@@ -23,8 +22,8 @@ impl OpenTape {
 
     // Opens a tape over the store: restarts the family and writes the header where there is room for it. Never refuses.
     pub fn open<F: Family>(family: &mut F, store: &mut [u32]) -> OpenTape
-        ensures is { Opened F.Family.meaning store.old (world (view result) family.new store.new) }
-        ensures law { LawAt F.Family.meaning [] (world (view result) family.new store.new) }
+        ensures is { Opened F.Family.meaning store.old (world result family.new store.new) }
+        ensures law { LawAt F.Family.meaning [] (world result family.new store.new) }
     {
         family.restart();
         let width = F::pick_width();
@@ -47,7 +46,7 @@ impl OpenTape {
         tick: u32,
         row: &[u32],
     ) -> Result<u32, Refusal>
-        ensures { RecordedBy F.Family.meaning (early_refusal F.Family.meaning (view self.old) (length store.old) (reading tick row.now)) (view self.old) family.old store.old (reading tick row.now) (view self.new) family.new store.new result }
+        ensures { RecordedBy F.Family.meaning (early_refusal F.Family.meaning self.old (length store.old) (reading tick row.now)) self.old family.old store.old (reading tick row.now) self.new family.new store.new result }
     {
         self.as_opened::<F>(store)?;
         self.after(tick)?;
@@ -67,16 +66,16 @@ impl OpenTape {
         tick: u32,
         row: &[u32],
     ) -> Result<u32, Refusal>
-        ensures is { Recorded F.Family.meaning (world (view self.old) family.old store.old) (reading tick row.now) result (world (view self.new) family.new store.new) }
-        ensures law { (log : List Logged) → Dealt F.Family.meaning log (world (view self.old) family.old store.old) → LawAt F.Family.meaning (noted log (reading tick row.now) result) (world (view self.new) family.new store.new) }
+        ensures is { Recorded F.Family.meaning (world self.old family.old store.old) (reading tick row.now) result (world self.new family.new store.new) }
+        ensures law { (log : List Logged) → Dealt F.Family.meaning log (world self.old family.old store.old) → LawAt F.Family.meaning (noted log (reading tick row.now) result) (world self.new family.new store.new) }
     {
         self.enter(family, store, tick, row)
     }
 
     // Marks the end of a batch: the open run is written, and the next record begins a batch. Refuses by 8, 6.
     pub fn mark<F: Family>(&mut self, family: &mut F, store: &mut [u32]) -> Result<(), Refusal>
-        ensures is { Marked F.Family.meaning (world (view self.old) family.old store.old) result (world (view self.new) family.new store.new) }
-        ensures law { (log : List Logged) → Dealt F.Family.meaning log (world (view self.old) family.old store.old) → LawAt F.Family.meaning (parted log result) (world (view self.new) family.new store.new) }
+        ensures is { Marked F.Family.meaning (world self.old family.old store.old) result (world self.new family.new store.new) }
+        ensures law { (log : List Logged) → Dealt F.Family.meaning log (world self.old family.old store.old) → LawAt F.Family.meaning (parted log result) (world self.new family.new store.new) }
     {
         self.as_opened::<F>(store)?;
         self.step(family, store, Event::Mark)
@@ -103,8 +102,8 @@ impl OpenTape {
         family: &mut F,
         store: &mut [u32],
     ) -> Result<ClosedTape, (OpenTape, Refusal)>
-        ensures is { Closed F.Family.meaning (world (view self) family.old store.old) result family.new store.new }
-        ensures law { (log : List Logged) → Dealt F.Family.meaning log (world (view self) family.old store.old) → LawAt F.Family.meaning log (world (view self) family.old store.old) }
+        ensures is { Closed F.Family.meaning (world self family.old store.old) result family.new store.new }
+        ensures law { (log : List Logged) → Dealt F.Family.meaning log (world self family.old store.old) → LawAt F.Family.meaning log (world self family.old store.old) }
     {
         if let Err(refusal) = self.as_opened::<F>(store) {
             return Err((self, refusal));

@@ -1,5 +1,4 @@
-ghost use Rattle.std.specs.Prelude.{◌+◌, ◌-◌, ◌*◌, ◌<◌, ◌≤◌};
-ghost use Rattle.recorder.specs.Phases.{running, open_first, open_last};
+use std::marker::Model;
 
 // Where an open tape stands. `last` is the last accepted tick.
 #[derive(Clone, Copy)]
@@ -20,12 +19,16 @@ pub struct OpenTape {
     pub(crate) places: u32,
     pub(crate) written: u32,
     pub(crate) phase: Phase,
-    ghost room: { written + running phase ≤ places },
-    ghost few: { places ≤ 1000000 },
-    ghost within: { places * (width + 2) ≤ length - 2 },
-    ghost narrow: { (0 < places → width ≤ 12) },
-    ghost timely: { open_last phase ≤ 268435455 },
-    ghost ordered: { open_first phase ≤ open_last phase },
+}
+
+impl Model for OpenTape {
+    ghost use Rattle.recorder.specs.Views.{View, Sound};
+
+    ghost Value = { View };
+
+    ghost view = { λ a. record { width = a.width; length = a.length; places = a.places; written = a.written; phase = a.phase } };
+
+    ghost invariant = { λ a. Sound (record { width = a.width; length = a.length; places = a.places; written = a.written; phase = a.phase }) };
 }
 
 // A closed tape: how many segments it has.
