@@ -7,8 +7,6 @@ ghost use Rattle.cuttings.specs.Cutting.{BestCut, Served};
 use family::Family;
 
 // What holds of a tape's runs, whatever the family.
-pub fn cutting_law<F: Family>() -> u8
+pub fn cutting_law<F: Family>()
     ensures { BestCut (Served F.Family.meaning.serves) }
-{
-    0
-}
+{}
