@@ -29,12 +29,7 @@ impl Hull {
     fn last_is_covered(&self, p: Point) -> bool
         ensures { result ≡ covered (reverse (ends self.now)) p }
     {
-        if self.len < 2 {
-            return false;
-        }
-        let last = self.points[self.len - 1];
-        let before = self.points[self.len - 2];
-        !last.is_above(before, p)
+        matches!(self.ends(), [.., before, last] if !last.is_above(*before, p))
     }
 
     // Drops what lies on or under the piece to `p`.
