@@ -1,6 +1,6 @@
 -- The code's products: they fit, and are the products.
 use borrow.Author.Numbers.{signed_product}
-use Rattle.std.proofs.Common.{◌≡◌, ℕ, suc, ◌-◌, ◌^◌, ◌<◌, ◌≤◌, ℤ, pos, negsuc, ◌-ℤ◌, ◌*ℤ◌, neg_ℤ, ◌<ℤ◌, sym, ◌∙◌, subst, ap₂, arith, w32, w64, SFits, to_z, of_z}
+use Rattle.std.proofs.Common.{◌≡◌, suc, ◌-◌, ◌^◌, ◌≤◌, ℤ, pos, negsuc, ◌*ℤ◌, ◌∙◌, ap₂, arith, w64, SFits, to_z, of_z}
 use native.Mathlib.Nat as N
 use mir.Syntax.{w128}
 use Rattle.std.proofs.lemmas.Int.{ints, to_z-of_z}
@@ -19,20 +19,3 @@ times_modest (pos a) (pos b) f g = let x : a ≤ 2 ^ 63 = omega (arith, ints) in
 times_modest (pos a) (negsuc b) f g = let x : a ≤ 2 ^ 63 - 1 = omega (arith, ints) in let y : suc b ≤ 2 ^ 63 = omega (arith, ints) in let m = N.mul-le-mul x y in (omega (arith, ints, m), omega (arith, ints, m))
 times_modest (negsuc a) (pos b) f g = let x : suc a ≤ 2 ^ 63 = omega (arith, ints) in let y : b ≤ 2 ^ 63 - 1 = omega (arith, ints) in let m = N.mul-le-mul x y in (omega (arith, ints, m), omega (arith, ints, m))
 times_modest (negsuc a) (negsuc b) f g = let x : suc a ≤ 2 ^ 63 = omega (arith, ints) in let y : suc b ≤ 2 ^ 63 = omega (arith, ints) in let m = N.mul-le-mul x y in (omega (arith, ints, m), omega (arith, ints, m))
-
--- a 32-bit number times a difference of two ticks fits 64 bits
-gain_fit : (a b : ℤ) → SFits w32 a → neg_ℤ (pos (2 ^ 32)) <ℤ b → b <ℤ pos (2 ^ 32) → SFits w64 (a *ℤ b)
-gain_fit (pos a) (pos b) f l h = let x : a ≤ 2 ^ 31 = omega (arith, ints) in let y : b ≤ 2 ^ 32 - 1 = omega (arith, ints) in let m = N.mul-le-mul x y in omega (arith, ints, m)
-gain_fit (pos a) (negsuc b) f l h = let x : a ≤ 2 ^ 31 = omega (arith, ints) in let y : suc b ≤ 2 ^ 32 - 1 = omega (arith, ints) in let m = N.mul-le-mul x y in omega (arith, ints, m)
-gain_fit (negsuc a) (pos b) f l h = let x : suc a ≤ 2 ^ 31 = omega (arith, ints) in let y : b ≤ 2 ^ 32 - 1 = omega (arith, ints) in let m = N.mul-le-mul x y in omega (arith, ints, m)
-gain_fit (negsuc a) (negsuc b) f l h = let x : suc a ≤ 2 ^ 31 = omega (arith, ints) in let y : suc b ≤ 2 ^ 32 - 1 = omega (arith, ints) in let m = N.mul-le-mul x y in omega (arith, ints, m)
-
-module _ (rise gap : ℤ) (pivot tick : ℕ) (f : SFits w32 rise) (g : SFits w64 gap) (hp : pivot < 2 ^ 32) (ht : tick < 2 ^ 32) (e : gap ≡ pos tick -ℤ pos pivot) where
-  gain_so : to_z w64 (of_z w64 (to_z w32 (of_z w32 rise))) *ℤ to_z w64 (of_z w64 gap) ≡ rise *ℤ (pos tick -ℤ pos pivot)
-  gain_so = ap₂ ◌*ℤ◌ (omega (arith, ints)) (to_z-of_z w64 gap g ∙ e)
-
-  pub gain_fits : SFits w64 (to_z w64 (of_z w64 (to_z w32 (of_z w32 rise))) *ℤ to_z w64 (of_z w64 gap))
-  gain_fits = subst (SFits w64) (sym gain_so) (gain_fit rise (pos tick -ℤ pos pivot) f (omega (arith, ints)) (omega (arith, ints)))
-
-  pub gain_is : to_z w64 (of_z w64 (to_z w64 (of_z w64 (to_z w32 (of_z w32 rise))) *ℤ to_z w64 (of_z w64 gap))) ≡ rise *ℤ (pos tick -ℤ pos pivot)
-  gain_is = to_z-of_z w64 _ gain_fits ∙ gain_so

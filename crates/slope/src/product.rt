@@ -17,7 +17,7 @@ pub(crate) fn minus_times(a: i64, b: i64) -> i128
 }
 
 // A difference that never wraps.
-pub(crate) fn less(a: i128, b: i128) -> i128
+fn less(a: i128, b: i128) -> i128
     requires { (Modest a) × (Modest b) }
     ensures { result ≡ a -ℤ b }
 {

@@ -1,21 +1,14 @@
 ghost use Rattle.std.specs.Prelude.{◌≡◌, ◌<◌, pos, ◌-ℤ◌, ◌*ℤ◌};
 ghost use Rattle.std.specs.Int.{int_div_euclid};
-ghost use Rattle.slope.specs.Values.{Floor, Modest, value_at};
+ghost use Rattle.slope.specs.Values.{Floor, value_at};
 
-use crate::product::{less, times};
-
-// The ticks from one to another.
-fn gap(from: u32, to: u32) -> i64
-    ensures { result ≡ pos to -ℤ pos from }
-{
-    to as i64 - from as i64
-}
+use crate::product::times;
 
 // What a line rises from the pivot to a tick, times its over. It fits: 32 bits times at most 32 bits and a sign.
 fn gain(rise: i32, pivot: u32, tick: u32) -> i64
     ensures { result ≡ rise *ℤ (pos tick -ℤ pos pivot) }
 {
-    rise as i64 * gap(pivot, tick)
+    rise as i64 * (tick as i64 - pivot as i64)
 }
 
 // A quotient rounded down, also below zero.
@@ -43,17 +36,9 @@ pub fn value_at(height: i32, rise: i32, over: u32, pivot: u32, tick: u32) -> i12
     height as i128 + climb(rise, over, pivot, tick) as i128
 }
 
-// What a line rises in some overs.
-fn risen(rise: i64, overs: u32) -> i128
-    ensures is { result ≡ rise *ℤ pos overs }
-    ensures modest { Modest result }
-{
-    times(rise, overs as i64)
-}
-
 // The height, some overs earlier, of a line that has this height: a rise less for each.
 pub fn height_before(height: i32, rise: i64, overs: u32) -> i128
     ensures { result ≡ height -ℤ rise *ℤ pos overs }
 {
-    less(height as i128, risen(rise, overs))
+    height as i128 - times(rise, overs as i64)
 }
