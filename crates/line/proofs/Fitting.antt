@@ -25,10 +25,10 @@ use Rattle.line.specs.Serving.{at_both, with_reading, falls_low, falls_high}
 
 -- the bounds of the slope with a reading taken
 abbrev pub least_with : Line → Reading → Slope
-least_with s r = steepest_to (low_end r) s.least (ends s.highs)
+least_with s r = steepest_to (low_end r) s.bounds.least (ends s.highs)
 
 abbrev pub fall_with : Line → Reading → Slope
-fall_with s r = steepest_to (high_end r) s.fall (ends s.lows)
+fall_with s r = steepest_to (high_end r) s.bounds.fall (ends s.lows)
 
 abbrev pub Meets : Line → Reading → Type 0
 Meets s r = meeting (least_with s r) (fall_with s r) ≡ true
@@ -39,7 +39,7 @@ ordered r h = omega (arith, ints, h)
 
 module _ (s : Line) (r : Reading) (h : Reaches s r.tick) (w : low_of r.row ≤ℤ high_of r.row) where
   abbrev StateSound : Type 0
-  StateSound = Sound s.lows s.highs s.least s.fall s.first s.last
+  StateSound = Sound s.lows s.highs s.bounds.least s.bounds.fall s.first s.last
 
   later : 0 < s.lows.len → s.last < r.tick
   later n = (h n).0
@@ -49,7 +49,7 @@ module _ (s : Line) (r : Reading) (h : Reaches s r.tick) (w : low_of r.row ≤�
 
   serving : Meets s r → Serves (low_end r ∷ ends s.lows) (high_end r ∷ ends s.highs) joint.0 joint.1 (lift joint (topmost joint (low_end r ∷ ends s.lows)))
   serving m = ∥∥₁_elim s.sound (serves_once _ _ _ _ _) (λ x.
-      joint_line s.lows s.highs s.least s.fall (low_end r) (high_end r) x.bounds (falls_low s (low_end r) later x) (falls_high s (high_end r) later x) refl (ordered r w) m)
+      joint_line s.lows s.highs s.bounds.least s.bounds.fall (low_end r) (high_end r) x.bounds (falls_low s (low_end r) later x) (falls_high s (high_end r) later x) refl (ordered r w) m)
 
   -- a line that serves the state's readings and this one
   abbrev joint_choice : Meets s r → Choice
@@ -86,14 +86,14 @@ module _ (s : Line) (r : Reading) (h : Reaches s r.tick) (w : low_of r.row ≤�
   fits_meets f =
       let c = f.some.by in
       let l = with_reading c r _ _ f.some.serving f.some.allowed.1 in
-      ∥∥₁_elim s.sound (Bool-set _ _) (λ x. bounds_meet s.lows s.highs s.least s.fall (low_end r) (high_end r) x.bounds (falls_low s (low_end r) later x) (falls_high s (high_end r) later x) refl (ordered r w) c.rise c.over c.lift l)
+      ∥∥₁_elim s.sound (Bool-set _ _) (λ x. bounds_meet s.lows s.highs s.bounds.least s.bounds.fall (low_end r) (high_end r) x.bounds (falls_low s (low_end r) later x) (falls_high s (high_end r) later x) refl (ordered r w) c.rise c.over c.lift l)
 
   module _ (nl : Near r.tick (low_end r)) (nh : Near r.tick (high_end r)) (m : Meets s r)
       (lows' highs' : Hull) (p q : Slope) (el : ends lows' ≡ pushed (ends s.lows) (low_end r)) (eh : ends highs' ≡ pushed (ends s.highs) (high_end r)) (ep : p ≡ least_with s r) (eq : q ≡ fall_with s r) where
     next_sound : (first' : ℕ) → r.tick ≤ first' + 255 → first' ≤ r.tick → (x : StateSound) → AllByRecursion (Near first') (ends s.lows) → AllByRecursion (Near first') (ends s.highs)
         → ((r₀ u k : ℤ) → Serves (low_end r ∷ ends s.lows) (high_end r ∷ ends s.highs) r₀ u k → Within u (r₀ *ℤ pos first' +ℤ k)) → Sound lows' highs' p q first' r.tick
     next_sound first' win f x al ah edge =
-        sound_after s.lows s.highs s.least s.fall (low_end r) (high_end r) x.bounds (falls_low s (low_end r) later x) (falls_high s (high_end r) later x) refl (ordered r w)
+        sound_after s.lows s.highs s.bounds.least s.bounds.fall (low_end r) (high_end r) x.bounds (falls_low s (low_end r) later x) (falls_high s (high_end r) later x) refl (ordered r w)
         first' win (f, nl.1, nl.2) (f, nh.1, nh.2) al ah x.least_small x.fall_small edge lows' highs' p q el eh ep eq m
 
     by_count : (n : ℕ) → s.lows.len ≡ n → StateSound → Sound lows' highs' p q (where_none s.lows.len r.tick s.first) r.tick

@@ -1,7 +1,8 @@
 -- The step that a reading is, as the code makes it.
-use Rattle.std.proofs.Common.{◌≡◌, ℕ, zero, suc, ◌+◌, ◌-◌, ◌*◌, ◌<◌, ◌≤◌, true, false, ℤ, ◌≤ℤ◌, is_some, Some, None, Decides, Option, sym, refl, ap, ◌∙◌, subst, ap₂, arith, w32, SFits, to_z, of_z}
+use Rattle.std.proofs.Common.{◌≡◌, ℕ, zero, suc, ◌+◌, ◌-◌, ◌*◌, ◌<◌, ◌≤◌, Bool, true, false, ℤ, ◌≤ℤ◌, is_some, Some, None, Decides, Option, sym, refl, ap, ◌∙◌, subst, ap₂, arith}
 use lib.Signed.{lt_z}
-use Rattle.std.proofs.lemmas.Int.{ints, to_z-of_z}
+use Rattle.std.specs.Bool.{then_some}
+use Rattle.std.proofs.lemmas.Int.{ints}
 use Rattle.std.proofs.lemmas.Bool.Decides.{nat_tests}
 use Rattle.std.proofs.lemmas.Bool.{false≢true}
 use Rattle.family.specs.Readings.{Reading}
@@ -24,27 +25,31 @@ use Rattle.line.specs.Steps.{Stepped, Steps}
 use Rattle.line.specs.Choosing.{some_points, no_points}
 use Rattle.line.proofs.Fitting.{fits_from, fits_meets, taken_sound, least_with, fall_with}
 
--- a point by its height
-pub point_at : (t : ℕ) (h z : ℤ) → SFits w32 h → h ≡ z → ◌≡◌ {A = Point} (record { tick = t; height = to_z w32 (of_z w32 h) }) (record { tick = t; height = z })
-point_at t h z f e = let g = to_z-of_z w32 h f ∙ e in cc
-
 module _ (s : Line) (r : Reading) (a b : Point) (p q : Slope) (ea : a ≡ low_end r) (eb : b ≡ high_end r)
-    (ep : p ≡ steepest_to a s.least (ends s.highs)) (eq : q ≡ steepest_to b s.fall (ends s.lows))
+    (ep : p ≡ steepest_to a s.bounds.least (ends s.highs)) (eq : q ≡ steepest_to b s.bounds.fall (ends s.lows))
     (h : Reaches s r.tick) (lo hi : ℤ) (el : lo ≡ low_of r.row) (eh : hi ≡ high_of r.row) (o : lo ≤ℤ hi) where
   ordered : low_of r.row ≤ℤ high_of r.row
   ordered = subst (λ (x : ℤ). low_of r.row ≤ℤ x) eh (subst (λ (x : ℤ). x ≤ℤ hi) el o)
 
   least_is : p ≡ least_with s r
-  least_is = ep ∙ ap (λ (x : Point). steepest_to x s.least (ends s.highs)) ea
+  least_is = ep ∙ ap (λ (x : Point). steepest_to x s.bounds.least (ends s.highs)) ea
 
   fall_is : q ≡ fall_with s r
-  fall_is = eq ∙ ap (λ (x : Point). steepest_to x s.fall (ends s.lows)) eb
+  fall_is = eq ∙ ap (λ (x : Point). steepest_to x s.bounds.fall (ends s.lows)) eb
 
-  pub met : meeting p q ≡ true → Fits line_meaning s r × Reaches s r.tick × Stepped s r (record { low = a; high = b; least = p; fall = q })
+  abbrev step : Step
+  step = record { low = a; high = b; bounds = record { least = p; fall = q } }
+
+  met : meeting p q ≡ true → Fits line_meaning s r × Reaches s r.tick × Stepped s r step
   met m = (fits_from s r h ordered (sym (ap₂ meeting least_is fall_is) ∙ m), h, record { low = ea; high = eb; least = least_is; fall = fall_is })
 
-  pub unmet : meeting p q ≡ false → Fits line_meaning s r → ⊥
+  unmet : meeting p q ≡ false → Fits line_meaning s r → ⊥
   unmet m f = false≢true (sym m ∙ ap₂ meeting least_is fall_is ∙ fits_meets s r h ordered f)
+
+  -- a reading that the state reaches is a step where the bounds with it taken meet
+  pub steps_where : (t : Bool) → t ≡ meeting p q → Steps s r (then_some t step)
+  steps_where true e = met (sym e)
+  steps_where false e = unmet (sym e)
 
 -- a step is there exactly where the reading fits
 pub step_decides : (s : Line) (r : Reading) (o : Option Step) → Steps s r o → Decides (is_some o) (Fits line_meaning s r)
@@ -71,10 +76,10 @@ module _ (r : Reading) (h : refusal line_meaning r ≡ None) where
   -- the state after a step is sound
   pub step_sound : (s : Line) (d : Step) → Fits line_meaning s r × Reaches s r.tick × Stepped s r d → (lows' highs' : Hull) (first' : ℕ)
       → ends lows' ≡ pushed (ends s.lows) d.low → ends highs' ≡ pushed (ends s.highs) d.high → first' ≡ where_none s.lows.len r.tick s.first
-      → ∥ Sound lows' highs' d.least d.fall first' r.tick ∥₁
+      → ∥ Sound lows' highs' d.bounds.least d.bounds.fall first' r.tick ∥₁
   step_sound s d f lows' highs' first' el eh ef =
-      subst (λ (n : ℕ). ∥ Sound lows' highs' d.least d.fall n r.tick ∥₁) (sym ef)
-      (taken_sound s r f.1 in_order near_low near_high (fits_meets s r f.1 in_order f.0) lows' highs' d.least d.fall
+      subst (λ (n : ℕ). ∥ Sound lows' highs' d.bounds.least d.bounds.fall n r.tick ∥₁) (sym ef)
+      (taken_sound s r f.1 in_order near_low near_high (fits_meets s r f.1 in_order f.0) lows' highs' d.bounds.least d.bounds.fall
       (el ∙ ap (pushed (ends s.lows)) f.2.low) (eh ∙ ap (pushed (ends s.highs)) f.2.high) f.2.least f.2.fall)
 
 pub stepped_at : (s : Line) (r : Reading) (d : Step) (o : Option Step) → o ≡ Some d → Steps s r o → Fits line_meaning s r × Reaches s r.tick × Stepped s r d

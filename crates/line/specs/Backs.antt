@@ -67,7 +67,7 @@ pick_is_lawful s n = ap (λ (p : Pick). pick_lawful p s.first s.last) (pick_anch
     (and_from (in_reach (anchored s) s.first) _ (range_test Level _ a.0 a.1) (range_test Level _ b.0 b.1))))
 
 -- where nothing was taken, the slope is 0 and the line is at height 0
-bare_bounds : (s : Line) → s.lows.len ≡ 0 → (s.least.0 ≤ℤ pos 0) × (s.fall.0 ≤ℤ pos 0)
+bare_bounds : (s : Line) → s.lows.len ≡ 0 → (s.bounds.least.0 ≤ℤ pos 0) × (s.bounds.fall.0 ≤ℤ pos 0)
 bare_bounds s e = ∥∥₁_elim s.sound (×_prop (le_once _ _) (le_once _ _)) (λ x.
     let k = x.bounds.needed (pos 0) (pos 1) (omega (arith, ints)) (subst (λ (l : List Point). Slopes l (ends s.highs) (pos 0) (pos 1)) (sym (no_ends s.lows e)) tt) in
     let a = k.0 in
@@ -81,8 +81,8 @@ level_reduced = refl
 bare_slope : (s : Line) → s.lows.len ≡ 0 → line_slope s ≡ (pos 0, pos 1)
 bare_slope s e =
     let b = bare_bounds s e in
-    let x : int_lt (pos 0) s.least.0 ≡ false = sym (let h = b.0 in omega (arith, lins, h)) in
-    let y : int_lt (pos 0) s.fall.0 ≡ false = sym (let h = b.1 in omega (arith, lins, h)) in
+    let x : int_lt (pos 0) s.bounds.least.0 ≡ false = sym (let h = b.0 in omega (arith, lins, h)) in
+    let y : int_lt (pos 0) s.bounds.fall.0 ≡ false = sym (let h = b.1 in omega (arith, lins, h)) in
     ap reduced_of (cond-false _ _ _ x ∙ cond-false _ _ _ y) ∙ level_reduced
 
 bare_lift : (s : Line) → s.lows.len ≡ 0 → (line_picked s).lift ≡ pos 0

@@ -33,7 +33,7 @@ use Rattle.hull.proofs.Pushes.{all_unreverse, falling_all}
 use Rattle.line.specs.Sloped.{reduced}
 
 abbrev StateSound : Line → Type 0
-StateSound s = Sound s.lows s.highs s.least s.fall s.first s.last
+StateSound s = Sound s.lows s.highs s.bounds.least s.bounds.fall s.first s.last
 
 -- the low end through which the line picked goes, and the pick through it
 abbrev pub line_anchor : Line → Point
@@ -59,7 +59,7 @@ module _ (s : Line) (n : 0 < s.lows.len) where
   slope_pair = pair_same {a = (line_slope s).0} {a' = (line_slope s).0} refl (sym (abs_pos (line_slope s).1 s.positive))
 
   abbrev divisor : ℕ
-  divisor = gcd_of (unsigned_abs (nearest_of s.least s.fall).0) (unsigned_abs (nearest_of s.least s.fall).1)
+  divisor = gcd_of (unsigned_abs (nearest_of s.bounds.least s.bounds.fall).0) (unsigned_abs (nearest_of s.bounds.least s.bounds.fall).1)
 
   pub full : 0 < length (ends s.lows)
   full = let z = length-take s.lows.len s.lows.points in let h = s.lows.sound in omega (arith, z, h)
@@ -76,8 +76,8 @@ module _ (s : Line) (n : 0 < s.lows.len) where
 
     pub picked_so : Picked (ends s.lows) (ends s.highs) s.first s.last (anchored s).pivot (anchored s).height (anchored s).rise (anchored s).over
     picked_so =
-        let k = picked (ends s.lows) (ends s.highs) s.least s.fall s.first s.last (line_slope s).0 over divisor x.bounds x.some full ticks x.least_small x.fall_small (x.edges n)
-        (subst (λ (r : Slope). Reduced (nearest_of s.least s.fall) r divisor) slope_pair (reduced _ _ _ _ _ _ x)) in
+        let k = picked (ends s.lows) (ends s.highs) s.bounds.least s.bounds.fall s.first s.last (line_slope s).0 over divisor x.bounds x.some full ticks x.least_small x.fall_small (x.edges n)
+        (subst (λ (r : Slope). Reduced (nearest_of s.bounds.least s.bounds.fall) r divisor) slope_pair (reduced _ _ _ _ _ _ x)) in
         let ea : topmost ((line_slope s).0, pos over) (ends s.lows) ≡ line_anchor s = ap (λ (r : Slope). topmost r (ends s.lows)) (sym slope_pair) in
         subst (λ (p : Point). Picked (ends s.lows) (ends s.highs) s.first s.last (s.first + (p.tick - s.first) % over) (p.height -ℤ (line_slope s).0 *ℤ pos ((p.tick - s.first) / over)) (line_slope s).0 over) ea k
 

@@ -1,5 +1,5 @@
 -- What the line family means.
-use Rattle.std.specs.Prelude.{◌≡◌, ℕ, ◌+◌, ◌<◌, ◌≤◌, ℤ, pos, negsuc, ◌+ℤ◌, ◌*ℤ◌, ◌≤ℤ◌, ◌<ℤ◌, Some, None, int_lt, slice_index, unsigned_abs}
+use Rattle.std.specs.Prelude.{◌≡◌, ℕ, ◌+◌, ◌<◌, ◌≤◌, ℤ, pos, ◌+ℤ◌, ◌*ℤ◌, ◌≤ℤ◌, ◌<ℤ◌, Some, None, int_lt, slice_index, unsigned_abs}
 use Rattle.words.specs.declared.kind.Kind.TheVariants.{Level as LevelKind}
 use Rattle.words.specs.Words.{number_in}
 use Rattle.family.specs.Readings.{Reading}
@@ -7,15 +7,11 @@ use Rattle.family.specs.Meaning.{Meaning}
 use Rattle.family.specs.Bands.{band_wrong, low_of, high_of, Within}
 use Rattle.line.specs.declared.line.Line.{Line}
 use Rattle.line.specs.declared.pick.Pick.{Pick}
-use Rattle.slope.specs.Slopes.{Slope, Coprime, slope_of}
+use Rattle.slope.specs.Slopes.{Slope, Coprime, unbounded, slope_of}
 use Rattle.hull.specs.Hulls.{ends, pushed, steepest_to, topmost}
 use Rattle.hull.specs.Points.{lift}
 use Rattle.line.specs.Choices.{Choice, line_serves, low_end, high_end, Allows}
 use Rattle.line.specs.Picks.{where_none, pick_of, lift_of, pick_words, words_lawful, value_words}
-
--- no bound yet: what is below every slope
-abbrev pub unbounded : Slope
-unbounded = (negsuc 0, pos 0)
 
 -- the choices that a state allows
 abbrev pub line_allows : Line → Choice → Type 0
@@ -23,7 +19,7 @@ line_allows s c = Allows s.lows s.highs s.first s.last c
 
 -- the slope that a state picks: the allowed one nearest 0, in lowest terms
 abbrev pub line_slope : Line → Slope
-line_slope s = slope_of s.least s.fall
+line_slope s = slope_of s.bounds.least s.bounds.fall
 
 -- the choice that a state picks: of this slope the line through the low end that is highest against it
 abbrev pub line_picked : Line → Choice
@@ -37,7 +33,7 @@ line_picked s = record {
 
 -- the words of it, as numbers
 abbrev pub line_pick : Line → Pick
-line_pick s = pick_of s.lows s.least s.fall s.first
+line_pick s = pick_of s.lows s.bounds.least s.bounds.fall s.first
 
 -- a reading comes after the last one taken, if any was, and at most 255 ticks after the first
 abbrev pub Reaches : Line → ℕ → Type 0
@@ -48,8 +44,8 @@ pub record Took (s : Line) (r : Reading) (t : Line) : Type 0 where
   pub later : 0 < s.lows.len → s.last < r.tick
   pub lows : ends t.lows ≡ pushed (ends s.lows) (low_end r)
   pub highs : ends t.highs ≡ pushed (ends s.highs) (high_end r)
-  pub least : t.least ≡ steepest_to (low_end r) s.least (ends s.highs)
-  pub fall : t.fall ≡ steepest_to (high_end r) s.fall (ends s.lows)
+  pub least : t.bounds.least ≡ steepest_to (low_end r) s.bounds.least (ends s.highs)
+  pub fall : t.bounds.fall ≡ steepest_to (high_end r) s.bounds.fall (ends s.lows)
   pub first : t.first ≡ where_none s.lows.len r.tick s.first
   pub last : t.last ≡ r.tick
 
@@ -57,8 +53,8 @@ pub record Took (s : Line) (r : Reading) (t : Line) : Type 0 where
 pub record Bare (s : Line) : Type 0 where
   pub lows : s.lows.len ≡ 0
   pub highs : s.highs.len ≡ 0
-  pub least : s.least ≡ unbounded
-  pub fall : s.fall ≡ unbounded
+  pub least : s.bounds.least ≡ unbounded
+  pub fall : s.bounds.fall ≡ unbounded
   pub first : s.first ≡ 0
   pub last : s.last ≡ 0
 

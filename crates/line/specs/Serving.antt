@@ -40,13 +40,13 @@ pub with_reading : (c : Choice) (r : Reading) (ls ms : List Point) → line_serv
 with_reading c r ls ms h s = record { over = s.over; lows = (at_low c r h, s.lows); highs = (at_high c r h, s.highs) }
 
 -- the points of a state are earlier than a reading that comes later
-pub falls_low : (s : Line) (p : Point) → (0 < s.lows.len → s.last < p.tick) → Sound s.lows s.highs s.least s.fall s.first s.last → Falling p (reverse (ends s.lows))
+pub falls_low : (s : Line) (p : Point) → (0 < s.lows.len → s.last < p.tick) → Sound s.lows s.highs s.bounds.least s.bounds.fall s.first s.last → Falling p (reverse (ends s.lows))
 falls_low s p h x = by s.lows.len refl where
   by : (n : ℕ) → s.lows.len ≡ n → Falling p (reverse (ends s.lows))
   by zero e = subst (λ (l : List Point). Falling p (reverse l)) (sym (no_ends s.lows e)) tt
   by (suc n) e = x.lows_fall p (h (omega arith))
 
-pub falls_high : (s : Line) (p : Point) → (0 < s.lows.len → s.last < p.tick) → Sound s.lows s.highs s.least s.fall s.first s.last → Falling p (reverse (ends s.highs))
+pub falls_high : (s : Line) (p : Point) → (0 < s.lows.len → s.last < p.tick) → Sound s.lows s.highs s.bounds.least s.bounds.fall s.first s.last → Falling p (reverse (ends s.highs))
 falls_high s p h x = by s.lows.len refl where
   by : (n : ℕ) → s.lows.len ≡ n → Falling p (reverse (ends s.highs))
   by zero e = subst (λ (l : List Point). Falling p (reverse l)) (sym (no_ends s.highs (let k = s.room in omega (arith, k)))) tt

@@ -12,8 +12,8 @@ use Rattle.line.specs.LineMeaning.{line_meaning, Reaches}
 pub record Stepped (s : Line) (r : Reading) (d : Step) : Type 0 where
   pub low : d.low ≡ low_end r
   pub high : d.high ≡ high_end r
-  pub least : d.least ≡ steepest_to (low_end r) s.least (ends s.highs)
-  pub fall : d.fall ≡ steepest_to (high_end r) s.fall (ends s.lows)
+  pub least : d.bounds.least ≡ steepest_to (low_end r) s.bounds.least (ends s.highs)
+  pub fall : d.bounds.fall ≡ steepest_to (high_end r) s.bounds.fall (ends s.lows)
 
 -- the step, if any, that a reading is: none where it does not fit
 abbrev pub Steps : Line → Reading → Option Step → Type 0

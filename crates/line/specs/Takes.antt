@@ -6,12 +6,11 @@ use Rattle.std.proofs.ByRecursion.{All-weaker}
 use Rattle.std.proofs.lemmas.Int.{ints}
 use Rattle.hull.specs.declared.point.Point.{Point}
 use Rattle.hull.specs.declared.hull.Hull.{Hull}
-use Rattle.slope.specs.Slopes.{Slope, meeting, nearest_of, Bound, Small}
+use Rattle.slope.specs.Slopes.{Slope, unbounded, meeting, nearest_of, Bound, Small}
 use Rattle.hull.specs.Hulls.{steepest_to, pushed, ends, Falling, topmost}
 use Rattle.hull.specs.Points.{reaching, lift, Near}
 use Rattle.hull.specs.Lines.{Serves, Bounds, Within}
 use Rattle.line.specs.Sound.{Sound}
-use Rattle.line.specs.LineMeaning.{unbounded}
 use Rattle.slope.proofs.Ring.{lins}
 use Rattle.hull.proofs.Steepest.{steepest_small}
 use Rattle.hull.proofs.Fits.{bounds_more, fits_no}
@@ -79,10 +78,9 @@ module _ (lows highs : Hull) (least fall : Slope) (a b : Point) (bounds : Bounds
 pub no_ends : (h : Hull) → h.len ≡ 0 → ends h ≡ []
 no_ends h e = ap (λ (n : ℕ). take n h.points) e
 
--- nothing taken: every line
-pub sound_none : (lows highs : Hull) → lows.len ≡ 0 → highs.len ≡ 0 → Sound lows highs unbounded unbounded 0 0
+sound_open : (lows highs : Hull) → lows.len ≡ 0 → highs.len ≡ 0 → Sound lows highs unbounded unbounded 0 0
 unfolding Bound
-sound_none lows highs zl zh =
+sound_open lows highs zl zh =
     let el = no_ends lows zl in
     let eh = no_ends highs zh in
     record {
@@ -97,3 +95,7 @@ sound_none lows highs zl zh =
       fall_small = (omega (arith, ints), omega (arith, ints), omega (arith, ints));
       edges = λ y. absurd (omega arith);
     }
+
+-- nothing taken: every line
+pub sound_none : (lows highs : Hull) (least fall : Slope) → lows.len ≡ 0 → highs.len ≡ 0 → least ≡ unbounded → fall ≡ unbounded → ∥ Sound lows highs least fall 0 0 ∥₁
+sound_none lows highs least fall zl zh el ef = ∣ subst (λ (p : Slope). Sound lows highs p fall 0 0) (sym el) (subst (λ (q : Slope). Sound lows highs unbounded q 0 0) (sym ef) (sound_open lows highs zl zh)) ∣₁

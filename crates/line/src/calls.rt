@@ -3,7 +3,6 @@ ghost use Rattle.line.specs.Keeps.{line_laws};
 
 use crate::line::Line;
 use crate::pick::Pick;
-use crate::state::push_ends;
 use family::{Band, Family, check_length, clear};
 use words::{Reason, Refusal};
 
@@ -34,8 +33,7 @@ impl Family for Line {
     }
 
     fn fits(&self, tick: u32, row: &[u32]) -> Result<bool, Refusal> {
-        let step = self.step(tick, row)?;
-        Ok(step.is_some())
+        Ok(self.step(tick, row)?.is_some())
     }
 
     fn take(&mut self, tick: u32, row: &[u32]) -> Result<(), Refusal> {
@@ -43,10 +41,10 @@ impl Family for Line {
             return Err(Refusal::new(Reason::Unfitting));
         };
         self.first = self.first_with(tick);
-        push_ends(&mut self.lows, &mut self.highs, step.low, step.high);
-        self.least = step.least;
-        self.fall = step.fall;
         self.last = tick;
+        self.bounds = step.bounds;
+        self.lows.push(step.low);
+        self.highs.push(step.high);
         Ok(())
     }
 

@@ -4,7 +4,7 @@ ghost use Rattle.line.specs.LineMeaning.{line_slope, line_pick, Chosen};
 
 use crate::line::Line;
 use crate::pick::Pick;
-use slope::{height_before, nearest, reduced};
+use slope::{height_before, reduced};
 
 // The first tick from `first` on that is some number of overs before or at `tick`.
 fn pivot(first: u32, tick: u32, over: u32) -> u32
@@ -22,7 +22,7 @@ impl Line {
         ensures over { (pos 0 <ℤ result.1) × (result.1 ≤ℤ pos 255) }
         ensures rise { (neg_ℤ (pos 2000000) ≤ℤ result.0) × (result.0 ≤ℤ pos 2000000) }
     {
-        reduced(nearest(self.least, self.fall))
+        reduced(self.bounds.nearest())
     }
 
     // What the state picks: of the allowed lines whose slope is nearest 0 the lowest, told at the first tick from the run's

@@ -44,10 +44,12 @@ impl Pick {
         requires held { numbers_hold self.now ≡ true }
         ensures { slot.new ≡ pick_words self.now }
     {
-        slot[0] = word(Kind::Pivot, self.pivot as i32);
-        slot[1] = word(Kind::Height, self.height);
-        slot[2] = word(Kind::Rise, self.rise);
-        slot[3] = word(Kind::Over, self.over as i32);
+        slot.copy_from_slice(&[
+            word(Kind::Pivot, self.pivot as i32),
+            word(Kind::Height, self.height),
+            word(Kind::Rise, self.rise),
+            word(Kind::Over, self.over as i32),
+        ]);
     }
 
     // The pick that four words say: none, where a word is of another kind or out of range.
@@ -79,7 +81,7 @@ impl Pick {
     fn is_placed(&self, first: u32, last: u32) -> bool
         ensures { result ≡ pivot_placed self.now first last }
     {
-        first <= self.pivot && self.pivot <= last && self.pivot - first < self.over
+        (first..=last).contains(&self.pivot) && self.pivot - first < self.over
     }
 
     // The height at a tick, rounded down.
@@ -95,8 +97,7 @@ impl Pick {
         requires { 0 < self.now.over }
         ensures { result ≡ in_reach self.now tick }
     {
-        let height = self.height_at(tick);
-        -1_000_000 <= height && height <= 1_000_000
+        (-1_000_000..=1_000_000).contains(&self.height_at(tick))
     }
 
     // Whether the pick is lawful for a first and a last tick.

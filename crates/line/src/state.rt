@@ -1,5 +1,5 @@
-ghost use Rattle.std.specs.Prelude.{◌≡◌, ◌+◌, ◌<◌, ◌≤◌, pos, neg_ℤ, ◌≤ℤ◌, Decides};
-ghost use Rattle.hull.specs.Hulls.{ends, pushed, steepest_to};
+ghost use Rattle.std.specs.Prelude.{◌≡◌, pos, neg_ℤ, ◌≤ℤ◌, Some, None, Decides};
+ghost use Rattle.hull.specs.Hulls.{ends, steepest_to};
 ghost use Rattle.family.specs.Readings.{reading};
 ghost use Rattle.family.specs.Refusing.{Answered};
 ghost use Rattle.family.specs.Meaning.{refusal};
@@ -12,7 +12,7 @@ use crate::line::Line;
 use crate::step::Step;
 use family::Band;
 use hull::{Hull, Point};
-use slope::meet;
+use slope::Bounds;
 use words::Refusal;
 
 // The low end of a reading's band.
@@ -36,17 +36,6 @@ fn high_end(tick: u32, band: Band) -> Point
     }
 }
 
-// Pushes the ends of a band, each onto its own hull.
-pub(crate) fn push_ends(lows: &mut Hull, highs: &mut Hull, low: Point, high: Point)
-    requires { (lows.old.len < 256) × (highs.old.len < 256) }
-    ensures lows { ends lows.new ≡ pushed (ends lows.old) low }
-    ensures highs { ends highs.new ≡ pushed (ends highs.old) high }
-    ensures room { (lows.new.len ≤ lows.old.len + 1) × (highs.new.len ≤ highs.old.len + 1) × (0 < lows.new.len) }
-{
-    lows.push(low);
-    highs.push(high);
-}
-
 impl Line {
     // Every line, and nothing taken.
     pub fn new() -> Line
@@ -55,8 +44,7 @@ impl Line {
         Line {
             lows: Hull::new(),
             highs: Hull::new(),
-            least: (-1, 0),
-            fall: (-1, 0),
+            bounds: Bounds::open(),
             first: 0,
             last: 0,
         }
@@ -68,38 +56,43 @@ impl Line {
     {
         self.lows.clear();
         self.highs.clear();
-        self.least = (-1, 0);
-        self.fall = (-1, 0);
+        self.bounds = Bounds::open();
         self.first = 0;
         self.last = 0;
+    }
+
+    // The first and the last tick taken: none where nothing was taken.
+    fn span(&self) -> Option<(u32, u32)>
+        ensures { result ≡ where_none self.now.lows.len None (Some (self.now.first, self.now.last)) }
+    {
+        (self.lows.len > 0).then_some((self.first, self.last))
     }
 
     // Whether a tick comes after the last one taken and at most 255 after the first.
     fn reaches(&self, tick: u32) -> bool
         ensures { Decides result (Reaches self.now tick) }
     {
-        self.lows.len == 0 || self.last < tick && tick - self.first <= 255
+        self.span()
+            .is_none_or(|(first, last)| last < tick && tick <= first + 255)
     }
 
     // The first tick with one more taken.
     pub(crate) fn first_with(&self, tick: u32) -> u32
         ensures { result ≡ where_none self.now.lows.len tick self.now.first }
     {
-        if self.lows.len == 0 { tick } else { self.first }
+        self.span().map_or(tick, |(first, _)| first)
     }
 
-    // The least slope still allowed with a low end more.
-    fn least_with(&self, low: Point) -> (i64, i64)
-        ensures { result ≡ steepest_to low self.now.least (ends self.now.highs) }
+    // The bounds of the slope with a low end and a high end more, the high one turned over. Each tightens one bound, by the
+    // other's hull.
+    fn bounds_with(&self, low: Point, high: Point) -> Bounds
+        ensures least { result.least ≡ steepest_to low self.now.bounds.least (ends self.now.highs) }
+        ensures fall { result.fall ≡ steepest_to high self.now.bounds.fall (ends self.now.lows) }
     {
-        self.highs.steepest(low, self.least)
-    }
-
-    // The greatest slope still allowed with a high end more; both turned over.
-    fn fall_with(&self, high: Point) -> (i64, i64)
-        ensures { result ≡ steepest_to high self.now.fall (ends self.now.lows) }
-    {
-        self.lows.steepest(high, self.fall)
+        Bounds {
+            least: self.highs.steepest(low, self.bounds.least),
+            fall: self.lows.steepest(high, self.bounds.fall),
+        }
     }
 
     // What the reading brings: nothing where it does not fit. Refuses by 5, 1, 2, 3.
@@ -112,16 +105,7 @@ impl Line {
         }
         let low = low_end(tick, band);
         let high = high_end(tick, band);
-        let least = self.least_with(low);
-        let fall = self.fall_with(high);
-        if !meet(least, fall) {
-            return Ok(None);
-        }
-        Ok(Some(Step {
-            low,
-            high,
-            least,
-            fall,
-        }))
+        let bounds = self.bounds_with(low, high);
+        Ok(bounds.meet().then_some(Step { low, high, bounds }))
     }
 }

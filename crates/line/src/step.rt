@@ -1,4 +1,5 @@
 use hull::Point;
+use slope::Bounds;
 
 // What a reading that fits brings: the low and the high end of its band, the high one turned over, and the bounds of the
 // slope with it taken.
@@ -6,6 +7,5 @@ use hull::Point;
 pub(crate) struct Step {
     pub(crate) low: Point,
     pub(crate) high: Point,
-    pub(crate) least: (i64, i64),
-    pub(crate) fall: (i64, i64),
+    pub(crate) bounds: Bounds,
 }

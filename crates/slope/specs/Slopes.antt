@@ -1,5 +1,5 @@
 -- Slopes: how they compare, which of them lie between two bounds, and the one in least terms.
-use Rattle.std.specs.Prelude.{◌≡◌, ℕ, ◌<◌, Bool, cond, ◌⊎◌, ℤ, pos, ◌*ℤ◌, neg_ℤ, ◌≤ℤ◌, ◌<ℤ◌, int_div, int_le, int_lt, unsigned_abs}
+use Rattle.std.specs.Prelude.{◌≡◌, ℕ, ◌<◌, Bool, cond, ◌⊎◌, ℤ, pos, negsuc, ◌*ℤ◌, neg_ℤ, ◌≤ℤ◌, ◌<ℤ◌, int_div, int_le, int_lt, unsigned_abs}
 use Rattle.std.specs.Int.{◌∣◌}
 use Rattle.slope.specs.Divisor.{gcd_of}
 
@@ -22,6 +22,10 @@ AtMost s r u = (s.0 *ℤ u) ≤ℤ (r *ℤ s.1)
 -- what bounds slopes from below: a fraction, or (−1, 0), which is below all of them and stands for no bound yet
 unfoldable pub Bound : Slope → Type 0
 Bound s = (pos 0 <ℤ s.1) ⊎ ((s.1 ≡ pos 0) × (s.0 <ℤ pos 0))
+
+-- no bound yet: what is below every slope
+abbrev pub unbounded : Slope
+unbounded = (negsuc 0, pos 0)
 
 -- two bounds leave a slope between them: p is at most q turned over (its rise negated)
 abbrev pub meeting : Slope → Slope → Bool

@@ -10,7 +10,7 @@ mod product;
 mod terms;
 mod value;
 
-pub use bounds::{meet, nearest};
+pub use bounds::Bounds;
 pub use compare::{flatter, steeper};
 pub use divisor::gcd;
 pub use law::laws;

@@ -8,5 +8,5 @@ returns c =
     let e = c.in_ok-step.ensures in (
       e.0,
       Decides-at c.is_some.result _ c.is_some.ensures
-          (step_decides c.args.self.now (reading c.args.tick c.args.row.now) c.in_ok-step.step e.1),
+          (step_decides c.args.self.now (reading c.args.tick c.args.row.now) c.in_ok-step.field-0 e.1),
     )

@@ -11,13 +11,12 @@ invariant_of-self c =
     let d = c.in-Some.step in
     let f = stepped_at s r d c.in_ok-step.field-0 c.in-Some.is e.1 in
     let first' = c.first_with-self.result in
-    let k = c.push_ends.ensures in
-    let lows' = c.push_ends.new.lows in
-    let highs' = c.push_ends.new.highs in
-    let x = step_sound r e.0 s d f lows' highs' first' k.lows k.highs c.first_with-self.ensures in
+    let lows' = c.push.new.self in
+    let highs' = c.push-2.new.self in
+    let x = step_sound r e.0 s d f lows' highs' first' c.push.ensures.list c.push-2.ensures.list c.first_with-self.ensures in
     let b = span_after s r first' c.first_with-self.ensures f.1 (tick_small r e.0) in
     record {
-      room = room_after s r first' c.first_with-self.ensures f.1 lows' highs' k.room.0 k.room.1 k.room.2;
+      room = room_after s r first' c.first_with-self.ensures f.1 lows' highs' c.push.ensures.room c.push-2.ensures.room c.push.ensures.some;
       span = b;
       positive = slope_positive _ _ _ _ _ _ x;
       sound = x;
