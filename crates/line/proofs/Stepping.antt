@@ -14,6 +14,7 @@ use Rattle.hull.specs.declared.point.Point.{Point}
 use Rattle.hull.specs.declared.hull.Hull.{Hull}
 use Rattle.line.specs.declared.line.Line.{Line}
 use Rattle.line.specs.declared.step.Step.{Step}
+use Rattle.line.specs.declared.span.Span.{Span}
 use Rattle.slope.specs.Slopes.{Slope, meeting}
 use Rattle.hull.specs.Hulls.{ends, pushed, steepest_to}
 use Rattle.line.specs.Sound.{Sound}
@@ -24,10 +25,11 @@ use Rattle.line.specs.LineMeaning.{line_meaning, Reaches}
 use Rattle.line.specs.Steps.{Stepped, Steps}
 use Rattle.line.specs.Choosing.{some_points, no_points}
 use Rattle.line.proofs.Fitting.{fits_from, fits_meets, taken_sound, least_with, fall_with}
+use Rattle.line.specs.Spans.{first_of, window}
 
-module _ (s : Line) (r : Reading) (a b : Point) (p q : Slope) (ea : a ≡ low_end r) (eb : b ≡ high_end r)
+module _ (s : Line) (r : Reading) (a b : Point) (p q : Slope) (d : Span) (ea : a ≡ low_end r) (eb : b ≡ high_end r)
     (ep : p ≡ steepest_to a s.bounds.least (ends s.highs)) (eq : q ≡ steepest_to b s.bounds.fall (ends s.lows))
-    (h : Reaches s r.tick) (lo hi : ℤ) (el : lo ≡ low_of r.row) (eh : hi ≡ high_of r.row) (o : lo ≤ℤ hi) where
+    (h : Reaches s r.tick) (ed : d.first ≡ where_none s.lows.len r.tick (first_of s.span)) (et : d.last ≡ r.tick) (lo hi : ℤ) (el : lo ≡ low_of r.row) (eh : hi ≡ high_of r.row) (o : lo ≤ℤ hi) where
   ordered : low_of r.row ≤ℤ high_of r.row
   ordered = subst (λ (x : ℤ). low_of r.row ≤ℤ x) eh (subst (λ (x : ℤ). x ≤ℤ hi) el o)
 
@@ -38,10 +40,10 @@ module _ (s : Line) (r : Reading) (a b : Point) (p q : Slope) (ea : a ≡ low_en
   fall_is = eq ∙ ap (λ (x : Point). steepest_to x s.bounds.fall (ends s.lows)) eb
 
   abbrev step : Step
-  step = record { low = a; high = b; bounds = record { least = p; fall = q } }
+  step = record { low = a; high = b; bounds = record { least = p; fall = q }; span = d }
 
   met : meeting p q ≡ true → Fits line_meaning s r × Reaches s r.tick × Stepped s r step
-  met m = (fits_from s r h ordered (sym (ap₂ meeting least_is fall_is) ∙ m), h, record { low = ea; high = eb; least = least_is; fall = fall_is })
+  met m = (fits_from s r h ordered (sym (ap₂ meeting least_is fall_is) ∙ m), h, record { low = ea; high = eb; least = least_is; fall = fall_is; first = ed; last = et })
 
   unmet : meeting p q ≡ false → Fits line_meaning s r → ⊥
   unmet m f = false≢true (sym m ∙ ap₂ meeting least_is fall_is ∙ fits_meets s r h ordered f)
@@ -74,29 +76,22 @@ module _ (r : Reading) (h : refusal line_meaning r ≡ None) where
   tick_small = let t = (formed line_meaning r parts.0).0 in grind (arith, nat_tests)
 
   -- the state after a step is sound
-  pub step_sound : (s : Line) (d : Step) → Fits line_meaning s r × Reaches s r.tick × Stepped s r d → (lows' highs' : Hull) (first' : ℕ)
-      → ends lows' ≡ pushed (ends s.lows) d.low → ends highs' ≡ pushed (ends s.highs) d.high → first' ≡ where_none s.lows.len r.tick s.first
-      → ∥ Sound lows' highs' d.bounds.least d.bounds.fall first' r.tick ∥₁
-  step_sound s d f lows' highs' first' el eh ef =
-      subst (λ (n : ℕ). ∥ Sound lows' highs' d.bounds.least d.bounds.fall n r.tick ∥₁) (sym ef)
+  pub step_sound : (s : Line) (d : Step) → Fits line_meaning s r × Reaches s r.tick × Stepped s r d → (lows' highs' : Hull)
+      → ends lows' ≡ pushed (ends s.lows) d.low → ends highs' ≡ pushed (ends s.highs) d.high → ∥ Sound lows' highs' d.bounds.least d.bounds.fall d.span.first d.span.last ∥₁
+  step_sound s d f lows' highs' el eh =
+      subst (λ (n : ℕ). ∥ Sound lows' highs' d.bounds.least d.bounds.fall n d.span.last ∥₁) (sym f.2.first) (subst (λ (n : ℕ). ∥ Sound lows' highs' d.bounds.least d.bounds.fall (where_none s.lows.len r.tick (first_of s.span)) n ∥₁) (sym f.2.last)
       (taken_sound s r f.1 in_order near_low near_high (fits_meets s r f.1 in_order f.0) lows' highs' d.bounds.least d.bounds.fall
-      (el ∙ ap (pushed (ends s.lows)) f.2.low) (eh ∙ ap (pushed (ends s.highs)) f.2.high) f.2.least f.2.fall)
+      (el ∙ ap (pushed (ends s.lows)) f.2.low) (eh ∙ ap (pushed (ends s.highs)) f.2.high) f.2.least f.2.fall))
 
 pub stepped_at : (s : Line) (r : Reading) (d : Step) (o : Option Step) → o ≡ Some d → Steps s r o → Fits line_meaning s r × Reaches s r.tick × Stepped s r d
 stepped_at s r d o e h = subst (Steps s r) e h
 
--- the numbers of the state after a step
-module _ (s : Line) (r : Reading) (first' : ℕ) (ef : first' ≡ where_none s.lows.len r.tick s.first) (h : Reaches s r.tick) where
-  pub span_after : r.tick ≤ 268435455 → (first' ≤ r.tick) × (r.tick ≤ first' + 255) × (r.tick ≤ 268435455)
-  span_after t = by s.lows.len refl where
-    by : (n : ℕ) → s.lows.len ≡ n → (first' ≤ r.tick) × (r.tick ≤ first' + 255) × (r.tick ≤ 268435455)
-    by zero e = let z = ef ∙ no_points s.lows.len r.tick s.first e in (omega (arith, z), omega (arith, z), t)
-    by (suc n) e = let i : 0 < s.lows.len = omega arith in let z = ef ∙ some_points s.lows.len r.tick s.first i in let b = h i in let o = s.span in (omega (arith, z, b, o), omega (arith, z, b), t)
-
+-- the hulls after a step have room for one point more
+module _ (s : Line) (r : Reading) (d : Span) (ef : d.first ≡ where_none s.lows.len r.tick (first_of s.span)) (et : d.last ≡ r.tick) (h : Reaches s r.tick) where
   pub room_after : (lows' highs' : Hull) → lows'.len ≤ s.lows.len + 1 → highs'.len ≤ s.highs.len + 1 → 0 < lows'.len
-      → (lows'.len ≤ r.tick + 1 - first') × (highs'.len ≤ r.tick + 1 - first') × (highs'.len ≤ 256 * lows'.len)
+      → (lows'.len ≤ d.last + 1 - d.first) × (highs'.len ≤ d.last + 1 - d.first) × (highs'.len ≤ 256 * lows'.len)
   room_after lows' highs' a b p = by s.lows.len refl where
-    by : (n : ℕ) → s.lows.len ≡ n → (lows'.len ≤ r.tick + 1 - first') × (highs'.len ≤ r.tick + 1 - first') × (highs'.len ≤ 256 * lows'.len)
-    by zero e = let z = ef ∙ no_points s.lows.len r.tick s.first e in let o = s.room in (omega (arith, z, o), omega (arith, z, o), omega (arith, o))
-    by (suc n) e = let i : 0 < s.lows.len = omega arith in let z = ef ∙ some_points s.lows.len r.tick s.first i in let k = h i in let o = s.room in let q = s.span in let w = highs'.sound in
+    by : (n : ℕ) → s.lows.len ≡ n → (lows'.len ≤ d.last + 1 - d.first) × (highs'.len ≤ d.last + 1 - d.first) × (highs'.len ≤ 256 * lows'.len)
+    by zero e = let z = ef ∙ no_points s.lows.len r.tick (first_of s.span) e in let o = s.room in (omega (arith, z, o), omega (arith, z, o), omega (arith, o))
+    by (suc n) e = let i : 0 < s.lows.len = omega arith in let z = ef ∙ some_points s.lows.len r.tick (first_of s.span) i in let k = h i in let o = s.room in let q = window s.span in let w = highs'.sound in
         (omega (arith, z, k, o, q), omega (arith, z, k, o, q), omega (arith, w))

@@ -31,6 +31,7 @@ use Rattle.slope.proofs.Absolute.{abs_pos}
 use Rattle.line.specs.Sloped.{slope_nearest}
 use Rattle.line.specs.Takes.{no_ends}
 use Rattle.line.specs.Choosing.{anchored, pick_anchored, no_points, picked_so, lifted, full}
+use Rattle.line.specs.Spans.{first_of, last_of, window}
 
 -- where nothing was taken, every line serves
 pub bare_serves : (s : Line) → s.lows.len ≡ 0 → (r u k : ℤ) → pos 0 <ℤ u → Serves (ends s.lows) (ends s.highs) r u k
@@ -48,23 +49,23 @@ picks_by s (suc n) e =
 
 -- the choice picked is allowed
 pub picks_allowed : (s : Line) → line_allows s (line_picked s)
-picks_allowed s = (λ n. (omega arith, (let o = s.span in omega (arith, o))), picks_by s s.lows.len refl)
+picks_allowed s = (λ n. (omega arith, (let o = window s.span in omega (arith, o))), picks_by s s.lows.len refl)
 
 -- lawful for the first and the last tick
-pub pick_is_lawful : (s : Line) → 0 < s.lows.len → pick_lawful (line_pick s) s.first s.last ≡ true
-pick_is_lawful s n = ap (λ (p : Pick). pick_lawful p s.first s.last) (pick_anchored s n) ∙ ∥∥₁_elim s.sound (Bool-set _ _) (λ x.
+pub pick_is_lawful : (s : Line) → 0 < s.lows.len → pick_lawful (line_pick s) (first_of s.span) (last_of s.span) ≡ true
+pick_is_lawful s n = ap (λ (p : Pick). pick_lawful p (first_of s.span) (last_of s.span)) (pick_anchored s n) ∙ ∥∥₁_elim s.sound (Bool-set _ _) (λ x.
     let k = picked_so s n x in
     let g = gcd_greatest (unsigned_abs (anchored s).rise) (anchored s).over in
     let one : gcd_of (unsigned_abs (anchored s).rise) (anchored s).over ≡ 1 = k.coprime _ g.left g.right in
-    let o = s.span in
-    let a = k.inside s.first (omega arith) o.0 in
-    let b = k.inside s.last o.0 (omega arith) in
+    let o = window s.span in
+    let a = k.inside (first_of s.span) (omega arith) o.0 in
+    let b = k.inside (last_of s.span) o.0 (omega arith) in
     let f = k.from in
     let u = k.upto in
     let v = k.near in
     and_from (lowest_terms (anchored s)) _ (eq-eqb _ _ one)
-    (and_from (pivot_placed (anchored s) s.first s.last) _ (grind (arith, nat_tests))
-    (and_from (in_reach (anchored s) s.first) _ (range_test Level _ a.0 a.1) (range_test Level _ b.0 b.1))))
+    (and_from (pivot_placed (anchored s) (first_of s.span) (last_of s.span)) _ (grind (arith, nat_tests))
+    (and_from (in_reach (anchored s) (first_of s.span)) _ (range_test Level _ a.0 a.1) (range_test Level _ b.0 b.1))))
 
 -- where nothing was taken, the slope is 0 and the line is at height 0
 bare_bounds : (s : Line) → s.lows.len ≡ 0 → (s.bounds.least.0 ≤ℤ pos 0) × (s.bounds.fall.0 ≤ℤ pos 0)

@@ -31,16 +31,17 @@ use Rattle.hull.proofs.Picks.{picked}
 use Rattle.hull.proofs.Ranges.{all_both}
 use Rattle.hull.proofs.Pushes.{all_unreverse, falling_all}
 use Rattle.line.specs.Sloped.{reduced}
+use Rattle.line.specs.Spans.{first_of, last_of, window}
 
 abbrev StateSound : Line → Type 0
-StateSound s = Sound s.lows s.highs s.bounds.least s.bounds.fall s.first s.last
+StateSound s = Sound s.lows s.highs s.bounds.least s.bounds.fall (first_of s.span) (last_of s.span)
 
 -- the low end through which the line picked goes, and the pick through it
 abbrev pub line_anchor : Line → Point
 line_anchor s = topmost (line_slope s) (ends s.lows)
 
 abbrev pub anchored : Line → Pick
-anchored s = pick_through s.first (line_slope s) (line_anchor s)
+anchored s = pick_through (first_of s.span) (line_slope s) (line_anchor s)
 
 pub some_points : {A : Type 0} (n : ℕ) (a b : A) → 0 < n → where_none n a b ≡ b
 some_points zero a b h = absurd (omega arith)
@@ -65,29 +66,29 @@ module _ (s : Line) (n : 0 < s.lows.len) where
   full = let z = length-take s.lows.len s.lows.points in let h = s.lows.sound in omega (arith, z, h)
 
   module _ (x : StateSound s) where
-    ticks : AllByRecursion (λ p. (s.first ≤ p.tick) × (p.tick ≤ s.last)) (ends s.lows)
+    ticks : AllByRecursion (λ p. ((first_of s.span) ≤ p.tick) × (p.tick ≤ (last_of s.span))) (ends s.lows)
     ticks =
-        let q : Point = record { tick = suc s.last; height = pos 0 } in
-        let h : s.last < suc s.last = omega arith in
-        all_both (λ p near late. (near.0, omega arith)) (ends s.lows) x.lows_near (all_unreverse (λ p. p.tick < suc s.last) (ends s.lows) (falling_all q (reverse (ends s.lows)) (x.lows_fall q h)))
+        let q : Point = record { tick = suc (last_of s.span); height = pos 0 } in
+        let h : (last_of s.span) < suc (last_of s.span) = omega arith in
+        all_both (λ p near late. (near.0, omega arith)) (ends s.lows) x.lows_near (all_unreverse (λ p. p.tick < suc (last_of s.span)) (ends s.lows) (falling_all q (reverse (ends s.lows)) (x.lows_fall q h)))
 
-    anchor_ticks : (s.first ≤ (line_anchor s).tick) × ((line_anchor s).tick ≤ s.last)
-    anchor_ticks = topmost_keeps (λ p. (s.first ≤ p.tick) × (p.tick ≤ s.last)) (line_slope s) (ends s.lows) full ticks
+    anchor_ticks : ((first_of s.span) ≤ (line_anchor s).tick) × ((line_anchor s).tick ≤ (last_of s.span))
+    anchor_ticks = topmost_keeps (λ p. ((first_of s.span) ≤ p.tick) × (p.tick ≤ (last_of s.span))) (line_slope s) (ends s.lows) full ticks
 
-    pub picked_so : Picked (ends s.lows) (ends s.highs) s.first s.last (anchored s).pivot (anchored s).height (anchored s).rise (anchored s).over
+    pub picked_so : Picked (ends s.lows) (ends s.highs) (first_of s.span) (last_of s.span) (anchored s).pivot (anchored s).height (anchored s).rise (anchored s).over
     picked_so =
-        let k = picked (ends s.lows) (ends s.highs) s.bounds.least s.bounds.fall s.first s.last (line_slope s).0 over divisor x.bounds x.some full ticks x.least_small x.fall_small (x.edges n)
+        let k = picked (ends s.lows) (ends s.highs) s.bounds.least s.bounds.fall (first_of s.span) (last_of s.span) (line_slope s).0 over divisor x.bounds x.some full ticks x.least_small x.fall_small (x.edges n)
         (subst (λ (r : Slope). Reduced (nearest_of s.bounds.least s.bounds.fall) r divisor) slope_pair (reduced _ _ _ _ _ _ x)) in
         let ea : topmost ((line_slope s).0, pos over) (ends s.lows) ≡ line_anchor s = ap (λ (r : Slope). topmost r (ends s.lows)) (sym slope_pair) in
-        subst (λ (p : Point). Picked (ends s.lows) (ends s.highs) s.first s.last (s.first + (p.tick - s.first) % over) (p.height -ℤ (line_slope s).0 *ℤ pos ((p.tick - s.first) / over)) (line_slope s).0 over) ea k
+        subst (λ (p : Point). Picked (ends s.lows) (ends s.highs) (first_of s.span) (last_of s.span) ((first_of s.span) + (p.tick - (first_of s.span)) % over) (p.height -ℤ (line_slope s).0 *ℤ pos ((p.tick - (first_of s.span)) / over)) (line_slope s).0 over) ea k
 
     anchored_lift : lift_of (anchored s) ≡ (line_picked s).lift
     anchored_lift =
         let o : 0 < over = (let e = abs_pos (line_slope s).1 s.positive in let h = s.positive in omega (arith, ints, e, h)) in
-        same_lift s.first (line_anchor s).tick over (line_slope s).0 (line_anchor s).height o anchor_ticks.0
+        same_lift (first_of s.span) (line_anchor s).tick over (line_slope s).0 (line_anchor s).height o anchor_ticks.0
         ∙ ap (λ (r : Slope). lift r (line_anchor s)) (sym slope_pair)
 
-    pub anchor_from : s.first ≤ (line_anchor s).tick
+    pub anchor_from : (first_of s.span) ≤ (line_anchor s).tick
     anchor_from = anchor_ticks.0
 
     -- not above any other allowed line of its slope
@@ -102,7 +103,7 @@ module _ (s : Line) (n : 0 < s.lows.len) where
     chosen_so : Chosen s (anchored s)
     chosen_so = let k = picked_so in record {
       above = k.serves.over;
-      allowed = (λ z. (omega arith, (let h = s.span in omega (arith, h))), k.serves);
+      allowed = (λ z. (omega arith, (let h = window s.span in omega (arith, h))), k.serves);
       nearest = λ c a. k.nearest c.rise c.over c.lift a.1;
       lowest = under;
       coprime = k.coprime;
@@ -119,7 +120,7 @@ module _ (s : Line) (n : 0 < s.lows.len) where
   pub chosen : Chosen s (line_pick s)
   chosen = subst (Chosen s) (sym pick_anchored) (record {
     above = ∥∥₁_elim s.sound (lt_once _ _) (λ x. (chosen_so x).above);
-    allowed = (λ z. (omega arith, (let h = s.span in omega (arith, h))), ∥∥₁_elim s.sound (serves_once _ _ _ _ _) (λ x. (chosen_so x).allowed.1));
+    allowed = (λ z. (omega arith, (let h = window s.span in omega (arith, h))), ∥∥₁_elim s.sound (serves_once _ _ _ _ _) (λ x. (chosen_so x).allowed.1));
     nearest = λ c a. ∥∥₁_elim s.sound (le_once _ _) (λ x. (chosen_so x).nearest c a);
     lowest = λ c a e. ∥∥₁_elim s.sound (le_once _ _) (λ x. (chosen_so x).lowest c a e);
     coprime = λ d p q. ∥∥₁_elim s.sound (ℕ_set _ _) (λ x. (chosen_so x).coprime d p q);

@@ -24,6 +24,7 @@ use Rattle.line.specs.Serving.{allows_keeps, allows_from, allows_serves, took_so
 use Rattle.line.specs.Ran.{lawful_after}
 use Rattle.line.specs.Same.{same_pick}
 use Rattle.line.specs.Backs.{bare_serves, picks_allowed, height_between}
+use Rattle.line.specs.Spans.{last_of}
 
 -- the level line at the low end serves a reading whose low end is not above its high end
 level_line : ℤ → Reading → Choice
@@ -62,11 +63,11 @@ line_laws = record {
   value_narrow = omega arith;
   picks = picks_allowed;
   restart_all = λ s c h. (λ n. absurd (let e = h.lows in omega (arith, e)), bare_serves s h.lows c.rise c.over c.lift c.above);
-  restart_last = λ s h. no_points s.lows.len None (Some s.last) h.lows;
+  restart_last = λ s h. no_points s.lows.len None (Some (last_of s.span)) h.lows;
   take_keeps = λ s t r c f k a b. allows_keeps s t r k c a b;
   take_from = λ s t r c f k a. allows_from s t r k c a;
   take_serves = λ s t r c f k a. allows_serves s t r k c a;
-  take_last = λ s t r k. some_points t.lows.len None (Some t.last) (took_some s t r k) ∙ ap Some k.last;
+  take_last = λ s t r k. some_points t.lows.len None (Some (last_of t.span)) (took_some s t r k) ∙ ap Some k.last;
   wrong_inside = λ r i w e. band_wrong_inside r.row i e;
   some_serves = λ r f u. (level_line (low_of r.row) r, level_serves r u);
   none_serves = λ r c f u w. unserving c r w u;

@@ -1,4 +1,5 @@
 pub mod Sound
+pub mod Spans
 pub mod Choices
 pub mod Numbers
 pub mod Picks

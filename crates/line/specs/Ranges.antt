@@ -28,7 +28,7 @@ pub record Ranged (p : Pick) : Type 0 where
 
 pub anchored_ranged : (s : Line) → 0 < s.lows.len → Ranged (anchored s)
 anchored_ranged s n = record {
-  pivot = ∥∥₁_elim s.sound le_prop (λ x. let u = (picked_so s n x).upto in let h = s.span in omega (arith, u, h));
+  pivot = ∥∥₁_elim s.sound le_prop (λ x. let u = (picked_so s n x).upto in let h = s.range in omega (arith, u, h));
   height_low = ∥∥₁_elim s.sound (le_once _ _) (λ x. (picked_so s n x).height_low);
   height_high = ∥∥₁_elim s.sound (le_once _ _) (λ x. (picked_so s n x).height_high);
   rise_low = ∥∥₁_elim s.sound (le_once _ _) (λ x. (picked_so s n x).rise_low);

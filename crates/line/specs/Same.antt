@@ -20,6 +20,7 @@ use Rattle.slope.proofs.Euclid.{divides}
 use Rattle.hull.proofs.Ranges.{all_both}
 use Rattle.line.specs.Choosing.{anchored, no_points, chosen}
 use Rattle.line.specs.Ranges.{pick_same}
+use Rattle.line.specs.Spans.{first_of, last_of, window}
 
 -- two equal fractions in lowest terms have the same over, and the same rise
 over_divides : (a b c d : ℕ) → ((e : ℕ) → e ∣ a → e ∣ b → e ≡ 1) → a * d ≡ c * b → b ∣ d
@@ -61,8 +62,8 @@ size_zero (negsuc n) h = absurd (omega (arith, h))
 opposite : (s : Line) (p : Pick) → Chosen s p → (k : ℤ) → 0 < s.lows.len → Serves (ends s.lows) (ends s.highs) (neg_ℤ p.rise) (pos p.over) k → p.rise ≡ pos 0
 opposite s p c k n y =
     let m = halfway (ends s.lows) (ends s.highs) p.rise (pos p.over) (lift_of p) k c.allowed.1 y in
-    let d : Choice = record { start = s.first; rise = pos 0; over = pos p.over +ℤ pos p.over; lift = lift_of p +ℤ k; above = m.over } in
-    let o = s.span in
+    let d : Choice = record { start = (first_of s.span); rise = pos 0; over = pos p.over +ℤ pos p.over; lift = lift_of p +ℤ k; above = m.over } in
+    let o = window s.span in
     let h = c.above in
     size_zero p.rise (no_size (unsigned_abs p.rise) p.over (omega (arith, ints, h)) (c.nearest d (λ z. (omega arith, omega (arith, o)), m)))
 
@@ -81,10 +82,10 @@ module _ (s t : Line) (n : 0 < s.lows.len) (m : 0 < t.lows.len) (h : Alike line_
   q = line_pick t
 
   abbrev a : Choice
-  a = line_of p s.first (chosen s n).above
+  a = line_of p (first_of s.span) (chosen s n).above
 
   abbrev b : Choice
-  b = line_of q t.first (chosen t m).above
+  b = line_of q (first_of t.span) (chosen t m).above
 
   a_there : line_allows t a
   a_there = (h.allow a).0 (chosen s n).allowed
@@ -92,7 +93,7 @@ module _ (s t : Line) (n : 0 < s.lows.len) (m : 0 < t.lows.len) (h : Alike line_
   b_here : line_allows s b
   b_here = (h.allow b).1 (chosen t m).allowed
 
-  firsts : s.first ≡ t.first
+  firsts : (first_of s.span) ≡ (first_of t.span)
   firsts = let x = (a_there.0 m).0 in let y = (b_here.0 n).0 in omega (arith, x, y)
 
   terms : (p.over ≡ q.over) × (unsigned_abs p.rise ≡ unsigned_abs q.rise)
@@ -148,6 +149,6 @@ same_pick s t h = by s.lows.len t.lows.len refl refl where
   by : (i j : ℕ) → s.lows.len ≡ i → t.lows.len ≡ j → line_pick s ≡ line_pick t
   by zero j e f =
       no_points s.lows.len level_pick (anchored s) e
-      ∙ sym (no_points t.lows.len level_pick (anchored t) (both_bare s.lows.len t.lows.len s.last t.last h.last e))
-  by (suc i) zero e f = absurd (let g = both_bare t.lows.len s.lows.len t.last s.last (sym h.last) f in omega (arith, e, g))
+      ∙ sym (no_points t.lows.len level_pick (anchored t) (both_bare s.lows.len t.lows.len (last_of s.span) (last_of t.span) h.last e))
+  by (suc i) zero e f = absurd (let g = both_bare t.lows.len s.lows.len (last_of t.span) (last_of s.span) (sym h.last) f in omega (arith, e, g))
   by (suc i) (suc j) e f = same_taken s t (omega arith) (omega arith) h

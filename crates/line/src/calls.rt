@@ -40,8 +40,7 @@ impl Family for Line {
         let Some(step) = self.step(tick, row)? else {
             return Err(Refusal::new(Reason::Unfitting));
         };
-        self.first = self.first_with(tick);
-        self.last = tick;
+        self.span = Some(step.span);
         self.bounds = step.bounds;
         self.lows.push(step.low);
         self.highs.push(step.high);

@@ -32,15 +32,15 @@ impl Line {
         ensures held { numbers_hold result ≡ true }
         ensures chosen { 0 < self.now.lows.len → Chosen self.now result }
     {
-        if self.lows.len == 0 {
+        let Some(span) = self.span else {
             return Pick::level();
-        }
+        };
         let slope = self.slope();
         let anchor = self.lows.highest(slope);
         let over = slope.1 as u32;
-        let overs = (anchor.tick - self.first) / over;
+        let overs = (anchor.tick - span.first) / over;
         Pick {
-            pivot: pivot(self.first, anchor.tick, over),
+            pivot: pivot(span.first, anchor.tick, over),
             height: height_before(anchor.height, slope.0, overs) as i32,
             rise: slope.0 as i32,
             over,

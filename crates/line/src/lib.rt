@@ -9,6 +9,7 @@ mod calls;
 mod choose;
 mod line;
 mod pick;
+mod span;
 mod state;
 mod step;
 

@@ -1,14 +1,14 @@
-ghost use Rattle.std.specs.Prelude.{◌≡◌, pos, neg_ℤ, ◌≤ℤ◌, Some, None, Decides};
+ghost use Rattle.std.specs.Prelude.{◌≡◌, pos, neg_ℤ, ◌≤ℤ◌};
 ghost use Rattle.hull.specs.Hulls.{ends, steepest_to};
 ghost use Rattle.family.specs.Readings.{reading};
 ghost use Rattle.family.specs.Refusing.{Answered};
 ghost use Rattle.family.specs.Meaning.{refusal};
 ghost use Rattle.line.specs.Choices.{point};
-ghost use Rattle.line.specs.Picks.{where_none};
-ghost use Rattle.line.specs.LineMeaning.{line_meaning, Reaches};
-ghost use Rattle.line.specs.Steps.{Steps};
+ghost use Rattle.line.specs.LineMeaning.{line_meaning};
+ghost use Rattle.line.specs.Steps.{Spans, Steps};
 
 use crate::line::Line;
+use crate::span::Span;
 use crate::step::Step;
 use family::Band;
 use hull::{Hull, Point};
@@ -45,8 +45,7 @@ impl Line {
             lows: Hull::new(),
             highs: Hull::new(),
             bounds: Bounds::open(),
-            first: 0,
-            last: 0,
+            span: None,
         }
     }
 
@@ -57,30 +56,19 @@ impl Line {
         self.lows.clear();
         self.highs.clear();
         self.bounds = Bounds::open();
-        self.first = 0;
-        self.last = 0;
+        self.span = None;
     }
 
-    // The first and the last tick taken: none where nothing was taken.
-    fn span(&self) -> Option<(u32, u32)>
-        ensures { result ≡ where_none self.now.lows.len None (Some (self.now.first, self.now.last)) }
+    // The span with a tick more: none where the tick does not come after the last one taken and at most 255 after the first.
+    fn span_with(&self, tick: u32) -> Option<Span>
+        ensures { Spans self.now tick result }
     {
-        (self.lows.len > 0).then_some((self.first, self.last))
-    }
-
-    // Whether a tick comes after the last one taken and at most 255 after the first.
-    fn reaches(&self, tick: u32) -> bool
-        ensures { Decides result (Reaches self.now tick) }
-    {
-        self.span()
-            .is_none_or(|(first, last)| last < tick && tick <= first + 255)
-    }
-
-    // The first tick with one more taken.
-    pub(crate) fn first_with(&self, tick: u32) -> u32
-        ensures { result ≡ where_none self.now.lows.len tick self.now.first }
-    {
-        self.span().map_or(tick, |(first, _)| first)
+        let first = match self.span {
+            None => tick,
+            Some(span) if span.last < tick && tick - span.first <= 255 => span.first,
+            Some(_) => return None,
+        };
+        Some(Span { first, last: tick })
     }
 
     // The bounds of the slope with a low end and a high end more, the high one turned over. Each tightens one bound, by the
@@ -100,12 +88,19 @@ impl Line {
         ensures { Answered (refusal line_meaning (reading tick row.now)) result (Steps self.now (reading tick row.now)) }
     {
         let band = Band::of_reading(tick, row)?;
-        if !self.reaches(tick) {
+        let Some(span) = self.span_with(tick) else {
             return Ok(None);
-        }
+        };
         let low = low_end(tick, band);
         let high = high_end(tick, band);
         let bounds = self.bounds_with(low, high);
-        Ok(bounds.meet().then_some(Step { low, high, bounds }))
+        Ok(
+            bounds.meet().then_some(Step {
+                low,
+                high,
+                bounds,
+                span,
+            }),
+        )
     }
 }

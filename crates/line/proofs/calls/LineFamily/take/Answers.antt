@@ -1,6 +1,8 @@
+use Rattle.std.proofs.Common.{arith}
+use Rattle.std.proofs.lemmas.Bool.Decides.{nat_tests}
 use Rattle.family.specs.Readings.{reading}
 use Rattle.line.specs.Sloped.{slope_positive}
-use Rattle.line.proofs.Stepping.{step_sound, tick_small, room_after, span_after, stepped_at}
+use Rattle.line.proofs.Stepping.{step_sound, tick_small, room_after, stepped_at}
 use Rattle.line.proofs.calls.LineFamily.take.Goals as goal
 
 pub invariant_of-self : goal.invariant_of-self
@@ -10,14 +12,14 @@ invariant_of-self c =
     let e = c.in_ok-step.ensures in
     let d = c.in-Some.step in
     let f = stepped_at s r d c.in_ok-step.field-0 c.in-Some.is e.1 in
-    let first' = c.first_with-self.result in
     let lows' = c.push.new.self in
     let highs' = c.push-2.new.self in
-    let x = step_sound r e.0 s d f lows' highs' first' c.push.ensures.list c.push-2.ensures.list c.first_with-self.ensures in
-    let b = span_after s r first' c.first_with-self.ensures f.1 (tick_small r e.0) in
+    let x = step_sound r e.0 s d f lows' highs' c.push.ensures.list c.push-2.ensures.list in
+    let n = c.push.ensures.some in
     record {
-      room = room_after s r first' c.first_with-self.ensures f.1 lows' highs' c.push.ensures.room c.push-2.ensures.room c.push.ensures.some;
-      span = b;
+      told = grind (arith, nat_tests);
+      room = room_after s r d.span f.2.first f.2.last f.1 lows' highs' c.push.ensures.room c.push-2.ensures.room n;
+      range = (let t = tick_small r e.0 in let l = f.2.last in omega (arith, t, l));
       positive = slope_positive _ _ _ _ _ _ x;
       sound = x;
     }
