@@ -42,8 +42,7 @@ impl Family for Line {
         };
         self.span = Some(step.span);
         self.bounds = step.bounds;
-        self.lows.push(step.low);
-        self.highs.push(step.high);
+        step.push_onto(&mut self.lows, &mut self.highs);
         Ok(())
     }
 

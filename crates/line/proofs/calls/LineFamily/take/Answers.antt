@@ -12,13 +12,14 @@ invariant_of-self c =
     let e = c.in_ok-step.ensures in
     let d = c.in-Some.step in
     let f = stepped_at s r d c.in_ok-step.field-0 c.in-Some.is e.1 in
-    let lows' = c.push.new.self in
-    let highs' = c.push-2.new.self in
-    let x = step_sound r e.0 s d f lows' highs' c.push.ensures.list c.push-2.ensures.list in
-    let n = c.push.ensures.some in
+    let k = c.push_onto.ensures in
+    let lows' = c.push_onto.new.lows in
+    let highs' = c.push_onto.new.highs in
+    let x = step_sound r e.0 s d f lows' highs' k.lows k.highs in
+    let n = k.room.2 in
     record {
       told = grind (arith, nat_tests);
-      room = room_after s r d.span f.2.first f.2.last f.1 lows' highs' c.push.ensures.room c.push-2.ensures.room n;
+      room = room_after s r d.span f.2.first f.2.last f.1 lows' highs' k.room.0 k.room.1 n;
       range = (let t = tick_small r e.0 in let l = f.2.last in omega (arith, t, l));
       positive = slope_positive _ _ _ _ _ _ x;
       sound = x;
