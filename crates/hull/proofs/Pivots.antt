@@ -2,10 +2,9 @@
 use Rattle.std.proofs.Common.{◌≡◌, ℕ, ◌+◌, ◌-◌, ◌*◌, ◌/◌, ◌%◌, ◌<◌, ◌≤◌, ℤ, pos, ◌+ℤ◌, ◌-ℤ◌, ◌*ℤ◌, nat_abs, sym, ap, ◌∙◌, subst, mod-lt, arith}
 use Prim.Native.Nat.{◌∣◌}
 use native.Mathlib.Nat.{div-add-mod, le_of_dvd, dvd-mul_right, dvd-add_iff_left}
-use Rattle.std.proofs.lemmas.Int.{ints, by_lt_z}
+use Rattle.std.proofs.lemmas.Int.{ints, by_lt_z, unsigned_abs-mul}
 use Rattle.slope.specs.Slopes.{Coprime}
 use Rattle.slope.proofs.Ring.{ring, lins}
-use Rattle.slope.proofs.Absolute.{abs_mul}
 use Rattle.slope.proofs.Euclid.{divides}
 
 -- the way from the pivot to the point is a whole number of overs
@@ -36,7 +35,7 @@ soonest first t u r h s g hu l c f e =
     let x = simp ring at (ap (λ (n : ℤ). r *ℤ n) p) in
     let i = simp ring at e in
     let y : r *ℤ pos (t - s) ≡ pos u *ℤ (h -ℤ g) = simp ring (omega (arith, lins, x, i)) in
-    let z : nat_abs r * (t - s) ≡ u * nat_abs (h -ℤ g) = sym (abs_mul r (pos (t - s))) ∙ ap nat_abs y ∙ abs_mul (pos u) (h -ℤ g) in
+    let z : nat_abs r * (t - s) ≡ u * nat_abs (h -ℤ g) = sym (unsigned_abs-mul r (pos (t - s))) ∙ ap nat_abs y ∙ unsigned_abs-mul (pos u) (h -ℤ g) in
     let d : u ∣ t - s = divides (nat_abs r) u (t - s) c (subst (λ (n : ℕ). u ∣ n) (sym z) (dvd-mul_right u (nat_abs (h -ℤ g)))) in
     let q : t - s ≡ (first + (t - first) % u - s) + u * ((t - first) / u) = omega (arith, m) in
     let k : u ∣ first + (t - first) % u - s = (dvd-add_iff_left u (dvd-mul_right u ((t - first) / u))).1 (subst (λ (n : ℕ). u ∣ n) q d) in

@@ -1,13 +1,6 @@
 -- Absolute values.
-use Rattle.std.proofs.Common.{◌≡◌, ◌*◌, ℤ, pos, negsuc, ◌*ℤ◌, neg_ℤ, nat_abs, ◌≤ℤ◌, ◌<ℤ◌, refl, arith}
+use Rattle.std.proofs.Common.{◌≡◌, ℤ, pos, negsuc, neg_ℤ, nat_abs, ◌≤ℤ◌, ◌<ℤ◌, refl, arith}
 use Rattle.std.proofs.lemmas.Int.{ints}
-
--- of a product
-pub abs_mul : (a b : ℤ) → nat_abs (a *ℤ b) ≡ nat_abs a * nat_abs b
-abs_mul (pos a) (pos b) = refl
-abs_mul (pos a) (negsuc b) = omega (arith, ints)
-abs_mul (negsuc a) (pos b) = omega (arith, ints)
-abs_mul (negsuc a) (negsuc b) = refl
 
 -- it is no less than the number, and no less than the number negated
 pub abs_over : (z : ℤ) → (z ≤ℤ pos (nat_abs z)) × (neg_ℤ z ≤ℤ pos (nat_abs z))

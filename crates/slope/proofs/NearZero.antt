@@ -1,10 +1,10 @@
 -- The slopes between two bounds: there is one where the bounds meet, and which is nearest 0.
 use Rattle.std.proofs.Common.{◌≡◌, ℕ, ◌*◌, Bool, true, false, cond, ℤ, pos, ◌+ℤ◌, ◌*ℤ◌, neg_ℤ, nat_abs, ◌≤ℤ◌, ◌<ℤ◌, refl, ap, ◌∙◌, subst, inl, inr, arith}
 use lib.Signed.{lt_z}
-use Rattle.std.proofs.lemmas.Int.{ints}
+use Rattle.std.proofs.lemmas.Int.{ints, unsigned_abs-mul}
 use Rattle.slope.specs.Slopes.{Slope, AtMost, Bound, Nearest, nearest_of, Reduced}
 use Rattle.slope.proofs.Ring.{ring, lins, mul_le, le_of_mul, pos_of_mul}
-use Rattle.slope.proofs.Absolute.{abs_mul, abs_over, abs_pos, abs_neg}
+use Rattle.slope.proofs.Absolute.{abs_over, abs_pos, abs_neg}
 use Rattle.slope.proofs.Fractions.{bound_over}
 
 -- the two bounds leave a slope between them: least ≤ - fall
@@ -86,7 +86,7 @@ reduced_nearest p q n m g k d =
       high = go q (neg_ℤ n.0) k.high (neg_ℤ m.0) (let e = d.rise in simp ring (omega (arith, lins, e)));
       least = λ r u x y.
           let h = simp ring at (k.least r u x y) in
-          let a : nat_abs n.0 ≡ g * nat_abs m.0 = ap nat_abs d.rise ∙ abs_mul (pos g) m.0 in
+          let a : nat_abs n.0 ≡ g * nat_abs m.0 = ap nat_abs d.rise ∙ unsigned_abs-mul (pos g) m.0 in
           let b : pos (nat_abs n.0) *ℤ u ≡ (pos g *ℤ pos (nat_abs m.0)) *ℤ u = ap (λ (z : ℕ). pos z *ℤ u) a in
           let c = simp ring at (ap (λ (z : ℤ). pos (nat_abs r) *ℤ z) d.over) in
           let b2 = simp ring at b in
