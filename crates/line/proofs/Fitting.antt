@@ -42,7 +42,7 @@ module _ (s : Line) (r : Reading) (h : Reaches s r.tick) (w : low_of r.row ≤�
   abbrev StateSound : Type 0
   StateSound = Sound s.lows s.highs s.bounds.least s.bounds.fall (first_of s.span) (last_of s.span)
 
-  later : 0 < s.lows.len → (last_of s.span) < r.tick
+  later : 0 < s.lows.len → last_of s.span < r.tick
   later n = (h n).0
 
   abbrev joint : Slope

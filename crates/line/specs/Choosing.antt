@@ -66,21 +66,21 @@ module _ (s : Line) (n : 0 < s.lows.len) where
   full = let z = length-take s.lows.len s.lows.points in let h = s.lows.sound in omega (arith, z, h)
 
   module _ (x : StateSound s) where
-    ticks : AllByRecursion (λ p. ((first_of s.span) ≤ p.tick) × (p.tick ≤ (last_of s.span))) (ends s.lows)
+    ticks : AllByRecursion (λ p. (first_of s.span ≤ p.tick) × (p.tick ≤ last_of s.span)) (ends s.lows)
     ticks =
         let q : Point = record { tick = suc (last_of s.span); height = pos 0 } in
-        let h : (last_of s.span) < suc (last_of s.span) = omega arith in
+        let h : last_of s.span < suc (last_of s.span) = omega arith in
         all_both (λ p near late. (near.0, omega arith)) (ends s.lows) x.lows_near (all_unreverse (λ p. p.tick < suc (last_of s.span)) (ends s.lows) (falling_all q (reverse (ends s.lows)) (x.lows_fall q h)))
 
-    anchor_ticks : ((first_of s.span) ≤ (line_anchor s).tick) × ((line_anchor s).tick ≤ (last_of s.span))
-    anchor_ticks = topmost_keeps (λ p. ((first_of s.span) ≤ p.tick) × (p.tick ≤ (last_of s.span))) (line_slope s) (ends s.lows) full ticks
+    anchor_ticks : (first_of s.span ≤ (line_anchor s).tick) × ((line_anchor s).tick ≤ last_of s.span)
+    anchor_ticks = topmost_keeps (λ p. (first_of s.span ≤ p.tick) × (p.tick ≤ last_of s.span)) (line_slope s) (ends s.lows) full ticks
 
     pub picked_so : Picked (ends s.lows) (ends s.highs) (first_of s.span) (last_of s.span) (anchored s).pivot (anchored s).height (anchored s).rise (anchored s).over
     picked_so =
         let k = picked (ends s.lows) (ends s.highs) s.bounds.least s.bounds.fall (first_of s.span) (last_of s.span) (line_slope s).0 over divisor x.bounds x.some full ticks x.least_small x.fall_small (x.edges n)
         (subst (λ (r : Slope). Reduced (nearest_of s.bounds.least s.bounds.fall) r divisor) slope_pair (reduced _ _ _ _ _ _ x)) in
         let ea : topmost ((line_slope s).0, pos over) (ends s.lows) ≡ line_anchor s = ap (λ (r : Slope). topmost r (ends s.lows)) (sym slope_pair) in
-        subst (λ (p : Point). Picked (ends s.lows) (ends s.highs) (first_of s.span) (last_of s.span) ((first_of s.span) + (p.tick - (first_of s.span)) % over) (p.height -ℤ (line_slope s).0 *ℤ pos ((p.tick - (first_of s.span)) / over)) (line_slope s).0 over) ea k
+        subst (λ (p : Point). Picked (ends s.lows) (ends s.highs) (first_of s.span) (last_of s.span) (first_of s.span + (p.tick - first_of s.span) % over) (p.height -ℤ (line_slope s).0 *ℤ pos ((p.tick - first_of s.span) / over)) (line_slope s).0 over) ea k
 
     anchored_lift : lift_of (anchored s) ≡ (line_picked s).lift
     anchored_lift =
@@ -88,7 +88,7 @@ module _ (s : Line) (n : 0 < s.lows.len) where
         same_lift (first_of s.span) (line_anchor s).tick over (line_slope s).0 (line_anchor s).height o anchor_ticks.0
         ∙ ap (λ (r : Slope). lift r (line_anchor s)) (sym slope_pair)
 
-    pub anchor_from : (first_of s.span) ≤ (line_anchor s).tick
+    pub anchor_from : first_of s.span ≤ (line_anchor s).tick
     anchor_from = anchor_ticks.0
 
     -- not above any other allowed line of its slope

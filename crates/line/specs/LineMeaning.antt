@@ -25,7 +25,7 @@ line_slope s = slope_of s.bounds.least s.bounds.fall
 -- the choice that a state picks: of this slope the line through the low end that is highest against it
 abbrev pub line_picked : Line → Choice
 line_picked s = record {
-  start = (first_of s.span);
+  start = first_of s.span;
   rise = (line_slope s).0;
   over = (line_slope s).1;
   lift = lift (line_slope s) (topmost (line_slope s) (ends s.lows));
@@ -38,17 +38,17 @@ line_pick s = pick_of s.lows s.bounds.least s.bounds.fall (first_of s.span)
 
 -- a reading comes after the last one taken, if any was, and at most 255 ticks after the first
 abbrev pub Reaches : Line → ℕ → Type 0
-Reaches s t = 0 < s.lows.len → ((last_of s.span) < t) × (t ≤ (first_of s.span) + 255)
+Reaches s t = 0 < s.lows.len → (last_of s.span < t) × (t ≤ first_of s.span + 255)
 
 -- from s, by taking a reading that comes later, to t: each hull is pushed by itself, and the bounds of the slope move
 pub record Took (s : Line) (r : Reading) (t : Line) : Type 0 where
-  pub later : 0 < s.lows.len → (last_of s.span) < r.tick
+  pub later : 0 < s.lows.len → last_of s.span < r.tick
   pub lows : ends t.lows ≡ pushed (ends s.lows) (low_end r)
   pub highs : ends t.highs ≡ pushed (ends s.highs) (high_end r)
   pub least : t.bounds.least ≡ steepest_to (low_end r) s.bounds.least (ends s.highs)
   pub fall : t.bounds.fall ≡ steepest_to (high_end r) s.bounds.fall (ends s.lows)
-  pub first : (first_of t.span) ≡ where_none s.lows.len r.tick (first_of s.span)
-  pub last : (last_of t.span) ≡ r.tick
+  pub first : first_of t.span ≡ where_none s.lows.len r.tick (first_of s.span)
+  pub last : last_of t.span ≡ r.tick
 
 -- nothing is taken
 pub record Bare (s : Line) : Type 0 where
@@ -56,8 +56,8 @@ pub record Bare (s : Line) : Type 0 where
   pub highs : s.highs.len ≡ 0
   pub least : s.bounds.least ≡ unbounded
   pub fall : s.bounds.fall ≡ unbounded
-  pub first : (first_of s.span) ≡ 0
-  pub last : (last_of s.span) ≡ 0
+  pub first : first_of s.span ≡ 0
+  pub last : last_of s.span ≡ 0
 
 abbrev pub line_meaning : Meaning Line
 line_meaning = record {
@@ -91,5 +91,5 @@ pub record Chosen (s : Line) (p : Pick) : Type 0 where
   pub nearest : (c : Choice) → line_allows s c → (pos (unsigned_abs p.rise) *ℤ c.over) ≤ℤ (pos (unsigned_abs c.rise) *ℤ pos p.over)
   pub lowest : (c : Choice) → line_allows s c → c.rise *ℤ pos p.over ≡ p.rise *ℤ c.over → (c.over *ℤ lift_of p) ≤ℤ (pos p.over *ℤ c.lift)
   pub coprime : Coprime p.rise (pos p.over)
-  pub from : (first_of s.span) ≤ p.pivot
-  pub soonest : (t : ℕ) (h : ℤ) → (first_of s.span) ≤ t → p.rise *ℤ pos t +ℤ lift_of p ≡ pos p.over *ℤ h → p.pivot ≤ t
+  pub from : first_of s.span ≤ p.pivot
+  pub soonest : (t : ℕ) (h : ℤ) → first_of s.span ≤ t → p.rise *ℤ pos t +ℤ lift_of p ≡ pos p.over *ℤ h → p.pivot ≤ t

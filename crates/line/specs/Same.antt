@@ -62,7 +62,7 @@ size_zero (negsuc n) h = absurd (omega (arith, h))
 opposite : (s : Line) (p : Pick) → Chosen s p → (k : ℤ) → 0 < s.lows.len → Serves (ends s.lows) (ends s.highs) (neg_ℤ p.rise) (pos p.over) k → p.rise ≡ pos 0
 opposite s p c k n y =
     let m = halfway (ends s.lows) (ends s.highs) p.rise (pos p.over) (lift_of p) k c.allowed.1 y in
-    let d : Choice = record { start = (first_of s.span); rise = pos 0; over = pos p.over +ℤ pos p.over; lift = lift_of p +ℤ k; above = m.over } in
+    let d : Choice = record { start = first_of s.span; rise = pos 0; over = pos p.over +ℤ pos p.over; lift = lift_of p +ℤ k; above = m.over } in
     let o = window s.span in
     let h = c.above in
     size_zero p.rise (no_size (unsigned_abs p.rise) p.over (omega (arith, ints, h)) (c.nearest d (λ z. (omega arith, omega (arith, o)), m)))
@@ -93,7 +93,7 @@ module _ (s t : Line) (n : 0 < s.lows.len) (m : 0 < t.lows.len) (h : Alike line_
   b_here : line_allows s b
   b_here = (h.allow b).1 (chosen t m).allowed
 
-  firsts : (first_of s.span) ≡ (first_of t.span)
+  firsts : first_of s.span ≡ first_of t.span
   firsts = let x = (a_there.0 m).0 in let y = (b_here.0 n).0 in omega (arith, x, y)
 
   terms : (p.over ≡ q.over) × (unsigned_abs p.rise ≡ unsigned_abs q.rise)

@@ -41,13 +41,13 @@ pub with_reading : (c : Choice) (r : Reading) (ls ms : List Point) → line_serv
 with_reading c r ls ms h s = record { over = s.over; lows = (at_low c r h, s.lows); highs = (at_high c r h, s.highs) }
 
 -- the points of a state are earlier than a reading that comes later
-pub falls_low : (s : Line) (p : Point) → (0 < s.lows.len → (last_of s.span) < p.tick) → Sound s.lows s.highs s.bounds.least s.bounds.fall (first_of s.span) (last_of s.span) → Falling p (reverse (ends s.lows))
+pub falls_low : (s : Line) (p : Point) → (0 < s.lows.len → last_of s.span < p.tick) → Sound s.lows s.highs s.bounds.least s.bounds.fall (first_of s.span) (last_of s.span) → Falling p (reverse (ends s.lows))
 falls_low s p h x = by s.lows.len refl where
   by : (n : ℕ) → s.lows.len ≡ n → Falling p (reverse (ends s.lows))
   by zero e = subst (λ (l : List Point). Falling p (reverse l)) (sym (no_ends s.lows e)) tt
   by (suc n) e = x.lows_fall p (h (omega arith))
 
-pub falls_high : (s : Line) (p : Point) → (0 < s.lows.len → (last_of s.span) < p.tick) → Sound s.lows s.highs s.bounds.least s.bounds.fall (first_of s.span) (last_of s.span) → Falling p (reverse (ends s.highs))
+pub falls_high : (s : Line) (p : Point) → (0 < s.lows.len → last_of s.span < p.tick) → Sound s.lows s.highs s.bounds.least s.bounds.fall (first_of s.span) (last_of s.span) → Falling p (reverse (ends s.highs))
 falls_high s p h x = by s.lows.len refl where
   by : (n : ℕ) → s.lows.len ≡ n → Falling p (reverse (ends s.highs))
   by zero e = subst (λ (l : List Point). Falling p (reverse l)) (sym (no_ends s.highs (let k = s.room in omega (arith, k)))) tt
@@ -77,21 +77,21 @@ module _ (s t : Line) (r : Reading) (k : Took s r t) where
       (subst (λ (z : List Point). Serves z (pushed (ends s.highs) (high_end r)) r₀ u k₀) k.lows (subst (λ (y : List Point). Serves (ends t.lows) y r₀ u k₀) k.highs l)))
 
   -- the first tick is the state's, or the reading's where nothing was taken
-  begun : s.lows.len ≡ 0 → (first_of t.span) ≡ r.tick
+  begun : s.lows.len ≡ 0 → first_of t.span ≡ r.tick
   begun e = k.first ∙ no_points s.lows.len r.tick (first_of s.span) e
 
-  goes_on : 0 < s.lows.len → (first_of t.span) ≡ (first_of s.span)
+  goes_on : 0 < s.lows.len → first_of t.span ≡ first_of s.span
   goes_on n = k.first ∙ some_points s.lows.len r.tick (first_of s.span) n
 
-  pub first_upto : (first_of t.span) ≤ r.tick
+  pub first_upto : first_of t.span ≤ r.tick
   first_upto = by s.lows.len refl where
-    by : (n : ℕ) → s.lows.len ≡ n → (first_of t.span) ≤ r.tick
+    by : (n : ℕ) → s.lows.len ≡ n → first_of t.span ≤ r.tick
     by zero e = let b = begun e in omega (arith, b)
     by (suc n) e = let p : 0 < s.lows.len = omega arith in let g = goes_on p in let l = k.later p in let h = window s.span in omega (arith, g, l, h)
 
   pub allows_keeps : (c : Choice) → line_allows s c → line_serves c r → line_allows t c
   allows_keeps c a h = (λ n. (starts s.lows.len refl, (let e = k.last in let w = h.1 in omega (arith, e, w))), lines_in c.rise c.over c.lift (with_reading c r _ _ h a.1)) where
-    starts : (n : ℕ) → s.lows.len ≡ n → c.start ≤ (first_of t.span)
+    starts : (n : ℕ) → s.lows.len ≡ n → c.start ≤ first_of t.span
     starts zero e = let b = begun e in let w = h.0 in omega (arith, b, w)
     starts (suc n) e = let p : 0 < s.lows.len = omega arith in let g = goes_on p in let w = (a.0 p).0 in omega (arith, g, w)
 

@@ -8,8 +8,8 @@ use hull::Hull;
 use slope::Bounds;
 
 // A state of the line family: what the readings taken since the restart still allow. `lows` is the upper hull of their low
-// ends, `highs` the lower hull of their high ends, kept turned over; the allowed slopes are those between `bounds`. Where nothing
-// was taken there is no span.
+// ends, `highs` the lower hull of their high ends, kept turned over; the allowed slopes are those between `bounds`; `span` has
+// the first and the last tick taken, and is there where a reading was.
 #[derive(Clone, Copy)]
 pub struct Line {
     pub(crate) lows: Hull,
