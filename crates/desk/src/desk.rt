@@ -3,12 +3,10 @@ ghost use Rattle.desk.specs.declared.answer.Answer.TheVariants.{Error};
 ghost use Rattle.desk.specs.declared.problem.Problem.TheVariants.{IsOpen};
 ghost use Rattle.desk.specs.Told.{is_open, replaces};
 
-use super::calls::lend;
-use super::held::{Held, fresh};
-use super::tape::{Tape, open};
+use super::held::Held;
+use super::tape::Tape;
 use super::{Answer, Problem};
 use commands::{Command, FamilyName};
-use level::Level;
 use std::alloc::Global;
 
 // What stands on the desk: the state of the family that is lent, and the tape with its store.
@@ -23,7 +21,7 @@ impl Desk {
         ensures { is_open result.tape ≡ false }
     {
         Desk {
-            held: Held::Level(Level::new()),
+            held: Held::from(FamilyName::Level),
             tape: Tape::Nothing,
         }
     }
@@ -34,100 +32,61 @@ impl Desk {
         tape.end();
     }
 
-    fn is_open(&self) -> bool
-        ensures { result ≡ is_open self.now.tape }
-    {
-        match &self.tape {
-            Tape::Open(_) => true,
-            _ => false,
-        }
-    }
-
-    fn is_empty(&self) -> bool {
-        match &self.tape {
-            Tape::Nothing => true,
-            _ => false,
-        }
+    // Puts a tape in place of what was there. One that was still open is closed.
+    fn place(&mut self, held: Held, tape: Tape) {
+        self.held = held;
+        self.tape.replace(tape);
     }
 
     // Opens a tape in place of what was there.
-    fn open(self, heap: Global, name: FamilyName, length: u32) -> (Desk, Result<Answer, Problem>) {
-        match Vec::from_elem(heap, 0, length as usize) {
-            Ok(store) => {
-                self.end();
-                let (held, recording) = open(name, store);
-                let places = recording.tape.places();
-                let tape = Tape::Open(recording);
-                (Desk { held, tape }, Ok(Answer::Opened(places)))
-            }
-            Err(_) => (self, Err(Problem::Memory)),
-        }
+    fn open(&mut self, heap: Global, name: FamilyName, length: u32) -> Result<Answer, Problem> {
+        let store = Vec::from_elem(heap, 0, length as usize)?;
+        let mut held = Held::from(name);
+        let recording = held.open(store);
+        let places = recording.tape.places();
+        self.place(held, Tape::Open(recording));
+        Ok(Answer::Opened(places))
     }
 
     // Takes the words as a closed tape's store, in place of what was there.
-    fn load(self, name: FamilyName, words: Vec<u32>) -> (Desk, Result<Answer, Problem>) {
+    fn load(&mut self, name: FamilyName, words: Vec<u32>) -> Answer {
         let length = words.len();
-        self.end();
-        let desk = Desk {
-            held: fresh(name),
-            tape: Tape::Closed(words),
-        };
-        (desk, Ok(Answer::Loaded(length)))
+        self.place(Held::from(name), Tape::Closed(words));
+        Answer::Loaded(length)
     }
 
     // Lends a fresh state of the family from now on.
-    fn change(self, name: FamilyName) -> (Desk, Result<Answer, Problem>) {
-        if self.is_empty() {
-            return (self, Err(Problem::NoTape));
+    fn change(&mut self, name: FamilyName) -> Result<Answer, Problem> {
+        if let Tape::Nothing = self.tape {
+            return Err(Problem::NoTape);
         }
-        let Desk { held: _, tape } = self;
-        let desk = Desk {
-            held: fresh(name),
-            tape,
-        };
-        (desk, Ok(Answer::Lent))
-    }
-
-    // What the host does to the store.
-    fn host(self, command: Command) -> (Desk, Result<Answer, Problem>) {
-        let Desk { held, tape } = self;
-        let (tape, told) = tape.host(command);
-        (Desk { held, tape }, told)
-    }
-
-    // What a command does for which the family is lent.
-    fn lent(self, heap: Global, command: Command) -> (Desk, Result<Answer, Problem>) {
-        let Desk { held, tape } = self;
-        let (held, tape, told) = lend(heap, held, tape, command);
-        (Desk { held, tape }, told)
+        self.held = Held::from(name);
+        Ok(Answer::Lent)
     }
 
     // Carries a command out. A tape that is open is not replaced.
-    fn obey(self, heap: Global, command: Command) -> (Desk, Result<Answer, Problem>)
-        ensures { is_open self.tape ≡ true → replaces command ≡ true → (result.0 ≡ self) × (result.1 ≡ Err IsOpen) }
+    fn obey(&mut self, heap: Global, command: Command) -> Result<Answer, Problem>
+        ensures { is_open self.old.tape ≡ true → replaces command ≡ true → (self.new ≡ self.old) × (result ≡ Err IsOpen) }
     {
         match command {
-            Command::Open { .. } | Command::Load { .. } if self.is_open() => (
-                self,
-                Err(Problem::IsOpen),
-            ),
+            Command::Open { .. } | Command::Load { .. } if self.tape.is_open() => {
+                Err(Problem::IsOpen)
+            }
             Command::Open { family, length } => self.open(heap, family, length),
-            Command::Load { family, words } => self.load(family, words),
+            Command::Load { family, words } => Ok(self.load(family, words)),
             Command::Lend { family } => self.change(family),
-            Command::Poke { .. } | Command::Resize { .. } | Command::Store => self.host(command),
-            Command::Help => (self, Ok(Answer::Help)),
-            other => self.lent(heap, other),
+            Command::Poke { .. } | Command::Resize { .. } | Command::Store => {
+                self.tape.host(command)
+            }
+            Command::Help => Ok(Answer::Help),
+            other => self.held.lend(heap, &mut self.tape, other),
         }
     }
 
     // Carries a command out and answers it. An error leaves the desk as it was. A tape that is open is not replaced.
-    pub fn answer(self, heap: Global, command: Command) -> (Desk, Answer)
-        ensures { is_open self.tape ≡ true → replaces command ≡ true → (result.0 ≡ self) × (result.1 ≡ Error IsOpen) }
+    pub fn answer(&mut self, heap: Global, command: Command) -> Answer
+        ensures { is_open self.old.tape ≡ true → replaces command ≡ true → (self.new ≡ self.old) × (result ≡ Error IsOpen) }
     {
-        let (desk, told) = self.obey(heap, command);
-        match told {
-            Ok(answer) => (desk, answer),
-            Err(problem) => (desk, Answer::Error(problem)),
-        }
+        self.obey(heap, command).unwrap_or_else(Answer::Error)
     }
 }

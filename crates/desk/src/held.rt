@@ -1,7 +1,11 @@
+use super::recording::Recording;
+use super::tape::Tape;
+use super::{Answer, Problem};
 use coarse::Coarse;
-use commands::FamilyName;
+use commands::{Command, FamilyName};
 use grades::Grades;
 use level::Level;
+use std::alloc::Global;
 
 // The state of the family that is lent.
 #[derive(Clone, Copy)]
@@ -11,11 +15,38 @@ pub(crate) enum Held {
     Coarse(Coarse),
 }
 
-// A freshly made state of a family.
-pub(crate) fn fresh(name: FamilyName) -> Held {
-    match name {
-        FamilyName::Level => Held::Level(Level::new()),
-        FamilyName::Grades => Held::Grades(Grades::new()),
-        FamilyName::Coarse => Held::Coarse(Coarse::new()),
+impl From<FamilyName> for Held {
+    // A freshly made state of the family.
+    fn from(name: FamilyName) -> Held {
+        match name {
+            FamilyName::Level => Held::Level(Level::new()),
+            FamilyName::Grades => Held::Grades(Grades::new()),
+            FamilyName::Coarse => Held::Coarse(Coarse::new()),
+        }
+    }
+}
+
+impl Held {
+    // Opens a tape over the store with the state.
+    pub(crate) fn open(&mut self, store: Vec<u32>) -> Recording {
+        match self {
+            Held::Level(family) => Recording::open(FamilyName::Level, family, store),
+            Held::Grades(family) => Recording::open(FamilyName::Grades, family, store),
+            Held::Coarse(family) => Recording::open(FamilyName::Coarse, family, store),
+        }
+    }
+
+    // Lends the state to the tape for a command.
+    pub(crate) fn lend(
+        &mut self,
+        heap: Global,
+        tape: &mut Tape,
+        command: Command,
+    ) -> Result<Answer, Problem> {
+        match self {
+            Held::Level(family) => tape.serve(heap, family, command),
+            Held::Grades(family) => tape.serve(heap, family, command),
+            Held::Coarse(family) => tape.serve(heap, family, command),
+        }
     }
 }

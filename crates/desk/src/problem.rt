@@ -1,6 +1,7 @@
 use commands::Unread;
 use std::alloc::{AllocError, AllocFailed};
 use std::fmt;
+use std::str::Utf8Error;
 
 // Why a line has an error for its answer.
 #[derive(Clone, Copy)]
@@ -27,6 +28,18 @@ impl From<AllocError> for Problem {
 impl<T: Drop> From<AllocFailed<T>> for Problem {
     fn from(_e: AllocFailed<T>) -> Problem {
         Problem::Memory
+    }
+}
+
+impl From<Utf8Error> for Problem {
+    fn from(_e: Utf8Error) -> Problem {
+        Problem::NoText
+    }
+}
+
+impl From<Unread> for Problem {
+    fn from(unread: Unread) -> Problem {
+        Problem::Unread(unread)
     }
 }
 

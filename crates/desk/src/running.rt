@@ -74,8 +74,7 @@ impl Recording {
         } = self;
         match tape.close(family, store.as_mut_slice()) {
             Ok(closed) => Ok((closed.segments, store)),
-            Err(back) => {
-                let (tape, refusal) = back;
+            Err((tape, refusal)) => {
                 let recording = Recording {
                     tape,
                     name,
