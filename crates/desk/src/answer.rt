@@ -33,44 +33,25 @@ pub enum Answer {
 }
 
 // Words, each after a blank.
-fn show_words<W: fmt::Write>(words: &[u32], f: &mut fmt::Formatter<W>) -> fmt::Result {
-    for word in words {
-        write!(f, " {word:08X}")?;
+#[derive(Clone, Copy)]
+struct Words<'a>(&'a [u32]);
+
+impl fmt::Display for Words<'_> {
+    fn fmt<W: fmt::Write>(&self, f: &mut fmt::Formatter<W>) -> fmt::Result {
+        for word in self.0 {
+            write!(f, " {word:08X}")?;
+        }
+        Ok(())
     }
-    Ok(())
 }
 
-fn show_refusal<W: fmt::Write>(refusal: Refusal, f: &mut fmt::Formatter<W>) -> fmt::Result {
-    let number = refusal.number();
-    let place = refusal.place;
-    write!(f, "refused {number} {place}")
-}
+// A refusal by its number and its place.
+#[derive(Clone, Copy)]
+struct Refused(Refusal);
 
-// An answer that ends with words.
-fn show_row<W: fmt::Write>(answer: &Answer, f: &mut fmt::Formatter<W>) -> fmt::Result {
-    match answer {
-        Answer::Value(row) => {
-            f.write_str("value")?;
-            show_words(row.as_slice(), f)
-        }
-        Answer::Batch(place, words) => {
-            write!(f, "batch {place}")?;
-            show_words(words.as_slice(), f)
-        }
-        Answer::Continuation(place, words) => {
-            write!(f, "continuation {place}")?;
-            show_words(words.as_slice(), f)
-        }
-        Answer::Store(words) => {
-            f.write_str("store")?;
-            show_words(words.as_slice(), f)
-        }
-        Answer::RefusedRow(refusal, row) => {
-            show_refusal(*refusal, f)?;
-            f.write_str(" row")?;
-            show_words(row.as_slice(), f)
-        }
-        _ => Ok(()),
+impl fmt::Display for Refused {
+    fn fmt<W: fmt::Write>(&self, f: &mut fmt::Formatter<W>) -> fmt::Result {
+        write!(f, "refused {} {}", self.0.number(), self.0.place)
     }
 }
 
@@ -82,16 +63,25 @@ impl fmt::Display for Answer {
             Answer::Marked => f.write_str("marked"),
             Answer::Closed(count) => write!(f, "closed {count}"),
             Answer::Loaded(length) => write!(f, "loaded {length}"),
+            Answer::Value(row) => write!(f, "value{}", Words(row)),
+            Answer::Batch(place, words) => write!(f, "batch {place}{}", Words(words)),
+            Answer::Continuation(place, words) => write!(f, "continuation {place}{}", Words(words)),
             Answer::Lawful(count) => write!(f, "lawful {count}"),
             Answer::Poked => f.write_str("poked"),
             Answer::Resized(length) => write!(f, "resized {length}"),
             Answer::Lent => f.write_str("lent"),
+            Answer::Store(words) => write!(f, "store{}", Words(words)),
             Answer::Help => f.write_str(
                 "commands: open record mark ask close load value item check poke resize lend store help",
             ),
-            Answer::Refused(refusal) => show_refusal(*refusal, f),
+            Answer::Refused(refusal) => write!(f, "{}", Refused(*refusal)),
+            Answer::RefusedRow(refusal, row) => write!(
+                f,
+                "{} row{}",
+                Refused(*refusal),
+                Words(row)
+            ),
             Answer::Error(problem) => write!(f, "error: {problem}"),
-            _ => show_row(self, f),
         }
     }
 }

@@ -3,7 +3,7 @@ use commands::{Command, read};
 use std::alloc::Global;
 use std::fmt::Write;
 use std::io;
-use std::io::{BufRead, BufReader, Split};
+use std::io::{BufRead, BufReader};
 
 // The command of a line of a script, or none where the line is empty or a comment.
 fn command_of(heap: Global, line: &[u8]) -> Result<Option<Command>, Problem> {
@@ -19,14 +19,14 @@ impl Desk {
     }
 }
 
-// Adds the answers to the lines to the text, a line each.
+// Adds an answer to each line to the text, on a line of its own, until a line can't be read.
 fn add_answers(
     out: &mut String,
-    desk: &mut Desk,
     heap: Global,
-    lines: Split<BufReader<&[u8]>>,
+    desk: &mut Desk,
+    script: impl BufRead + Drop,
 ) -> io::Result<()> {
-    for line in lines {
+    for line in script.split(heap, b'\n') {
         if let Some(answer) = desk.reply(heap, line?.as_slice()) {
             writeln!(out, "{answer}")?;
         }
@@ -36,10 +36,10 @@ fn add_answers(
 
 // All answers to a script, a line each.
 pub fn transcript(heap: Global, script: &[u8]) -> io::Result<String> {
-    let lines = BufReader::new(heap, script)?.split(heap, b'\n');
-    let mut desk = Desk::new();
+    let script = BufReader::new(heap, script)?;
     let mut out = String::new(heap);
-    let told = add_answers(&mut out, &mut desk, heap, lines);
+    let mut desk = Desk::new();
+    let told = add_answers(&mut out, heap, &mut desk, script);
     desk.end();
     told?;
     Ok(out)

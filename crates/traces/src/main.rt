@@ -1,36 +1,31 @@
 // Reads a script from standard input, a command a line, and prints one answer line for each command.
 #![tactic(auto)]
 
-use desk::{Answer, Desk};
+use desk::Desk;
+use std::alloc::Global;
 use std::io;
 use std::io::{BufRead, BufReader};
 
-fn show(rt: &HostRuntime, answer: Option<Answer>) -> io::Result<()> {
-    match answer {
-        Some(answer) => println!(rt; "{answer}"),
-        None => Ok(()),
+// Answers the lines, until one can't be read or its answer can't be printed.
+fn answer_lines(
+    rt: &HostRuntime,
+    heap: Global,
+    desk: &mut Desk,
+    script: impl BufRead + Drop,
+) -> io::Result<()> {
+    for line in script.split(heap, b'\n') {
+        if let Some(answer) = desk.reply(heap, line?.as_slice()) {
+            println!(rt; "{answer}")?;
+        }
     }
+    Ok(())
 }
 
 fn main(rt: HostRuntime) -> io::Result<()> {
     let heap = rt.alloc();
-    let lines = BufReader::new(heap, rt.stdin())?.split(heap, b'\n');
+    let script = BufReader::new(heap, rt.stdin())?;
     let mut desk = Desk::new();
-    let mut told = Ok(());
-    for line in lines {
-        let (next, shown) = match line {
-            Ok(line) => {
-                let (next, answer) = desk.reply(heap, line.as_slice());
-                (next, show(&rt, answer))
-            }
-            Err(e) => (desk, Err(e)),
-        };
-        desk = next;
-        if shown.is_err() {
-            told = shown;
-            break;
-        }
-    }
+    let told = answer_lines(&rt, heap, &mut desk, script);
     desk.end();
     told
 }
