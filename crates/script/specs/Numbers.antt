@@ -1,13 +1,13 @@
 -- The numbers that texts write.
-use Rattle.std.specs.Prelude.{ℕ, Bool, true, cond, ◌&&◌, List, [], ◌∷◌, length, Some, None, Option, ◌==◌, nat_le, nat_lt}
+use Rattle.std.specs.Prelude.{ℕ, Bool, cond, ◌&&◌, List, length, Some, None, Option, ◌==◌, nat_le, nat_lt}
 use Rattle.std.specs.Str.Parse.{digits_value}
 use Rattle.std.specs.Char.{is_ascii_hexdigit}
+use Rattle.std.specs.List.{list_all}
 use Rattle.std.specs.Str.{all_ascii_digits}
 
 -- every byte is a hexadecimal digit, of either case
 abbrev pub all_hex : List ℕ → Bool
-all_hex [] = true
-all_hex (c ∷ cs) = is_ascii_hexdigit c && all_hex cs
+all_hex bs = list_all is_ascii_hexdigit bs
 
 -- a number, if it is the text's
 abbrev pub if_so : Bool → ℕ → Option ℕ

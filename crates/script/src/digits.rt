@@ -6,24 +6,14 @@ ghost use Rattle.script.specs.Numbers.{all_hex, number_of, word_of};
 fn all_digits(bytes: &[u8]) -> bool
     ensures { result ≡ all_ascii_digits bytes.now }
 {
-    for b in bytes {
-        if !b.is_ascii_digit() {
-            return false;
-        }
-    }
-    true
+    bytes.iter().all(|b| b.is_ascii_digit())
 }
 
 // Whether every byte is a hexadecimal digit.
 fn all_hex(bytes: &[u8]) -> bool
     ensures { result ≡ all_hex bytes.now }
 {
-    for b in bytes {
-        if !b.is_ascii_hexdigit() {
-            return false;
-        }
-    }
-    true
+    bytes.iter().all(|b| b.is_ascii_hexdigit())
 }
 
 // The number that the text writes in digits alone, if it is at most `most`.
@@ -34,24 +24,15 @@ pub fn number(text: &str, most: u32) -> Option<u32>
     if !all_digits(text.as_bytes()) {
         return None;
     }
-    match text.parse::<u32>() {
-        Ok(n) => if n <= most { Some(n) } else { None },
-        Err(_) => None,
-    }
+    text.parse::<u32>().ok().filter(|n| *n <= most)
 }
 
 // The word that the text writes in exactly eight hexadecimal digits.
 pub fn word(text: &str) -> Option<u32>
     ensures { result ≡ word_of text.now }
 {
-    if text.len() != 8 {
+    if text.len() != 8 || !all_hex(text.as_bytes()) {
         return None;
     }
-    if !all_hex(text.as_bytes()) {
-        return None;
-    }
-    match u32::from_str_radix(text, 16) {
-        Ok(w) => Some(w),
-        Err(_) => None,
-    }
+    u32::from_str_radix(text, 16).ok()
 }

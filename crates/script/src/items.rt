@@ -1,5 +1,5 @@
 // An item of a reading, by the words that it adds to the row.
-#[derive(Clone, Copy)]
+#[derive(Clone, Copy, PartialEq, Eq, Debug)]
 pub enum Item {
     // the LOW and the HIGH word of a band
     Band(u32, u32),

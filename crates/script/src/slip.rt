@@ -1,7 +1,8 @@
+use std::error::Error;
 use std::fmt;
 
 // What is wrong with the text of an item.
-#[derive(Clone, Copy)]
+#[derive(Clone, Copy, PartialEq, Eq, Debug)]
 pub enum Slip {
     // an end of a band `a..b`
     End,
@@ -27,3 +28,5 @@ impl fmt::Display for Slip {
         }
     }
 }
+
+impl Error for Slip {}

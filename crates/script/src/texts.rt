@@ -42,14 +42,8 @@ fn end(text: &str) -> Option<u32>
     ensures bound { IfSome result (λ n. n < 2 ^ 28) }
 {
     match text.strip_prefix('-') {
-        Some(rest) => match digits::number(rest, BIAS) {
-            Some(n) => Some(BIAS - n),
-            None => None,
-        },
-        None => match digits::number(text, TOP - BIAS) {
-            Some(n) => Some(BIAS + n),
-            None => None,
-        },
+        Some(rest) => digits::number(rest, BIAS).map(|n| BIAS - n),
+        None => digits::number(text, TOP - BIAS).map(|n| BIAS + n),
     }
 }
 
@@ -57,30 +51,23 @@ fn end(text: &str) -> Option<u32>
 fn band(low: &str, high: &str) -> Option<Item>
     ensures { result ≡ band_of low.now high.now }
 {
-    match (end(low), end(high)) {
-        (Some(low), Some(high)) => Some(Item::Band(bits(Kind::Low, low), bits(Kind::High, high))),
-        _ => None,
-    }
+    let low = bits(Kind::Low, end(low)?);
+    let high = bits(Kind::High, end(high)?);
+    Some(Item::Band(low, high))
 }
 
 // The word of a mask, from the text after its `m`.
 fn mask(text: &str) -> Option<Item>
     ensures { result ≡ mask_of text.now }
 {
-    match digits::number(text, TOP) {
-        Some(payload) => Some(Item::One(bits(Kind::Mask, payload))),
-        None => None,
-    }
+    digits::number(text, TOP).map(|payload| Item::One(bits(Kind::Mask, payload)))
 }
 
 // Any word, from the text after its `x`.
 fn any_word(text: &str) -> Option<Item>
     ensures { result ≡ any_of text.now }
 {
-    match digits::word(text) {
-        Some(word) => Some(Item::One(word)),
-        None => None,
-    }
+    digits::word(text).map(Item::One)
 }
 
 // The item that a text writes: a mask `mN`, a word `xHHHHHHHH` or a band `a..b`.
