@@ -1,13 +1,33 @@
+use super::Unread;
+use std::str::FromStr;
+
 // The families that a script can name.
-#[derive(Clone, Copy)]
+#[derive(Clone, Copy, PartialEq, Eq, Debug)]
 pub enum FamilyName {
     Level,
     Grades,
     Coarse,
 }
 
+impl FromStr for FamilyName {
+    type Err = Unread;
+
+    ghost use Rattle.commands.specs.Names.{NamesFamily};
+
+    ghost from_str_gives = { NamesFamily };
+
+    fn from_str(text: &str) -> Result<FamilyName, Unread> {
+        match text {
+            "level" => Ok(FamilyName::Level),
+            "grades" => Ok(FamilyName::Grades),
+            "coarse" => Ok(FamilyName::Coarse),
+            _ => Err(Unread::Family),
+        }
+    }
+}
+
 // A command of a script. A width that is not written is the family's own.
-#[derive(Drop)]
+#[derive(PartialEq, Eq, Debug, Drop)]
 pub enum Command {
     Open { family: FamilyName, length: u32 },
     Record { tick: u32, row: Vec<u32> },

@@ -1,9 +1,10 @@
 use script::Slip;
 use std::alloc::{AllocError, AllocFailed};
+use std::error::Error;
 use std::fmt;
 
 // How a command is written, with its arguments.
-#[derive(Clone, Copy)]
+#[derive(Clone, Copy, PartialEq, Eq, Debug)]
 pub enum Form {
     Open,
     Record,
@@ -36,7 +37,7 @@ impl fmt::Display for Form {
 }
 
 // Why a line is no command.
-#[derive(Clone, Copy)]
+#[derive(Clone, Copy, PartialEq, Eq, Debug)]
 pub enum Unread {
     Memory,
     Unknown,
@@ -64,6 +65,12 @@ impl<T: Drop> From<AllocFailed<T>> for Unread {
     }
 }
 
+impl From<Slip> for Unread {
+    fn from(slip: Slip) -> Unread {
+        Unread::Item(slip)
+    }
+}
+
 impl fmt::Display for Unread {
     fn fmt<W: fmt::Write>(&self, f: &mut fmt::Formatter<W>) -> fmt::Result {
         match self {
@@ -82,3 +89,5 @@ impl fmt::Display for Unread {
         }
     }
 }
+
+impl Error for Unread {}

@@ -1,7 +1,7 @@
 ghost use Rattle.std.specs.Prelude.{IfOk};
 ghost use Rattle.commands.specs.Bounds.{Bounded, Within};
 
-use super::arguments::{family, index, length, row, tick, width, word, words};
+use super::arguments::{any_number, length, row, width, word, words};
 use super::{Command, Form, Unread};
 use std::alloc::Global;
 
@@ -11,17 +11,17 @@ fn recording(heap: Global, parts: &[&str]) -> Result<Command, Unread>
 {
     match parts {
         ["open", name, text] => Ok(Command::Open {
-            family: family(name)?,
+            family: name.parse()?,
             length: length(text)?,
         }),
         ["open", ..] => Err(Unread::Arguments(Form::Open)),
         ["record", text, items @ ..] => Ok(Command::Record {
-            tick: tick(text)?,
+            tick: any_number(text, Unread::Tick)?,
             row: row(heap, items)?,
         }),
         ["record"] => Err(Unread::Arguments(Form::Record)),
         ["ask", text, rest @ ..] => Ok(Command::Ask {
-            tick: tick(text)?,
+            tick: any_number(text, Unread::Tick)?,
             width: width(rest, Form::Ask)?,
         }),
         ["ask"] => Err(Unread::Arguments(Form::Ask)),
@@ -35,17 +35,17 @@ fn reading(heap: Global, parts: &[&str]) -> Result<Command, Unread>
 {
     match parts {
         ["load", name, texts @ ..] => Ok(Command::Load {
-            family: family(name)?,
+            family: name.parse()?,
             words: words(heap, texts)?,
         }),
         ["load"] => Err(Unread::Arguments(Form::Load)),
         ["value", text, rest @ ..] => Ok(Command::Value {
-            tick: tick(text)?,
+            tick: any_number(text, Unread::Tick)?,
             width: width(rest, Form::Value)?,
         }),
         ["value"] => Err(Unread::Arguments(Form::Value)),
         ["item", text] => Ok(Command::ItemAt {
-            index: index(text)?,
+            index: any_number(text, Unread::Index)?,
         }),
         ["item", ..] => Err(Unread::Arguments(Form::ItemAt)),
         _ => hosting(parts),
@@ -58,7 +58,7 @@ fn hosting(parts: &[&str]) -> Result<Command, Unread>
 {
     match parts {
         ["poke", at, text] => Ok(Command::Poke {
-            index: index(at)?,
+            index: any_number(at, Unread::Index)?,
             word: word(text)?,
         }),
         ["poke", ..] => Err(Unread::Arguments(Form::Poke)),
@@ -67,7 +67,7 @@ fn hosting(parts: &[&str]) -> Result<Command, Unread>
         }),
         ["resize", ..] => Err(Unread::Arguments(Form::Resize)),
         ["lend", name] => Ok(Command::Lend {
-            family: family(name)?,
+            family: name.parse()?,
         }),
         ["lend", ..] => Err(Unread::Arguments(Form::Lend)),
         _ => alone(parts),
@@ -98,6 +98,6 @@ pub fn read(heap: Global, line: &str) -> Result<Option<Command>, Unread>
     match parts.as_slice() {
         [] => Ok(None),
         [first, ..] if first.starts_with('#') => Ok(None),
-        _ => Ok(Some(recording(heap, parts.as_slice())?)),
+        parts => recording(heap, parts).map(Some),
     }
 }
