@@ -3,7 +3,7 @@ use std::fmt;
 use words::Refusal;
 
 // The answer to a command.
-#[derive(Drop)]
+#[derive(PartialEq, Eq, Debug, Drop)]
 pub enum Answer {
     // the places of the store
     Opened(u32),

@@ -1,10 +1,11 @@
 use commands::Unread;
 use std::alloc::{AllocError, AllocFailed};
+use std::error::Error;
 use std::fmt;
 use std::str::Utf8Error;
 
 // Why a line has an error for its answer.
-#[derive(Clone, Copy)]
+#[derive(Clone, Copy, PartialEq, Eq, Debug)]
 pub enum Problem {
     Memory,
     // the line is not UTF-8
@@ -58,3 +59,5 @@ impl fmt::Display for Problem {
         }
     }
 }
+
+impl Error for Problem {}
