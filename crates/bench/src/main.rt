@@ -8,6 +8,7 @@
 mod measure;
 mod rows;
 
+use family::Family;
 use grades::Grades;
 use level::Level;
 use line::Line;
@@ -17,8 +18,9 @@ use std::alloc::{AllocError, Global};
 use std::{env, io};
 
 // A store with room for a segment after every run.
-fn store(heap: Global, readings: u32, run: u32, record: usize) -> Result<Vec<u32>, AllocError> {
+fn store<F: Family>(heap: Global, readings: u32, run: u32) -> Result<Vec<u32>, AllocError> {
     let segments = (readings / run.max(1)) as usize;
+    let record = usize::from(F::pick_width()) + 2;
     Vec::from_elem(
         heap,
         0,
@@ -29,7 +31,19 @@ fn store(heap: Global, readings: u32, run: u32, record: usize) -> Result<Vec<u32
     )
 }
 
-// How many segments the readings make.
+// How many segments a family makes of the readings.
+fn segments<F: Family + Drop, const WIDTH: usize>(
+    heap: Global,
+    mut family: F,
+    rows: Vec<[u32; WIDTH]>,
+    readings: u32,
+    run: u32,
+) -> Result<Option<u32>, AllocError> {
+    let mut store = store::<F>(heap, readings, run)?;
+    Ok(Some(measure(&mut family, store.as_mut_slice(), rows.as_slice(), readings)))
+}
+
+// How many segments the readings make in the family of the name.
 fn run_family(
     heap: Global,
     name: &str,
@@ -37,54 +51,20 @@ fn run_family(
     run: u32,
 ) -> Result<Option<u32>, AllocError> {
     match name {
-        "level" => {
-            let rows = bands(heap, run)?;
-            let mut words = store(heap, readings, run, 3)?;
-            Ok(Some(measure(
-                &mut Level::new(),
-                words.as_mut_slice(),
-                rows.as_slice(),
-                2,
-                readings,
-            )))
-        }
-        "grades" => {
-            let rows = masks(heap, run)?;
-            let mut words = store(heap, readings, run, 3)?;
-            Ok(Some(measure(
-                &mut Grades::new(),
-                words.as_mut_slice(),
-                rows.as_slice(),
-                1,
-                readings,
-            )))
-        }
-        "line" => {
-            let rows = bows(heap, run)?;
-            let mut words = store(heap, readings, run, 6)?;
-            Ok(Some(measure(
-                &mut Line::new(),
-                words.as_mut_slice(),
-                rows.as_slice(),
-                2,
-                readings,
-            )))
-        }
+        "level" => segments(heap, Level::new(), bands(heap, run)?, readings, run),
+        "grades" => segments(heap, Grades::new(), masks(heap, run)?, readings, run),
+        "line" => segments(heap, Line::new(), bows(heap, run)?, readings, run),
         _ => Ok(None),
     }
 }
 
 fn main(rt: HostRuntime) -> io::Result<()> {
     let heap = rt.alloc();
-    let mut words = env::args(&rt)?;
-    let _ = words.next();
+    let mut words = env::args(&rt)?.skip(1);
     let (Some(name), Some(readings), Some(run)) = (words.next(), words.next(), words.next()) else {
         return println!(rt; "write: bench FAMILY READINGS RUN");
     };
-    let (Ok(readings), Ok(run)) = (
-        readings.as_str().parse::<u32>(),
-        run.as_str().parse::<u32>(),
-    ) else {
+    let (Ok(readings), Ok(run)) = (readings.as_str().parse(), run.as_str().parse()) else {
         return println!(rt; "READINGS and RUN are numbers");
     };
     match run_family(heap, name.as_str(), readings, run)? {

@@ -1,25 +1,26 @@
-use Rattle.std.proofs.Common.{length, sym, ap, ◌∙◌}
+use Rattle.std.proofs.Common.{ℕ, ◌≤◌, sym, subst, ◌∙◌}
 use Rattle.family.specs.Readings.{reading}
-use Rattle.recorder.specs.declared.tape.OpenTape.{OpenTape}
 use Rattle.recorder.specs.Steps.{view}
 use Rattle.recorder.specs.Histories.{world}
 use Rattle.recorder.proofs.Kept.{recorded_keeps}
+use Rattle.bench.proofs.Places.{recorded_places, closed_within}
 use Rattle.bench.proofs.measure.measure.Goals as goal
-use Rattle.bench.proofs.measure.measure.Goals.{in-Some, in_default}
 
 pub loop-tick-preserved : goal.loop-tick-preserved
 loop-tick-preserved g c =
     let i = c.loop-tick.invariant in
-    elim c.match-get.branch [
-      | in-Some w ↦
-          let before = world (view c.loop-tick.tape) c.loop-tick.family c.loop-tick.store in
-          let after = world (view w.record.new.self) w.record.new.family w.record.new.store in
-          let k = recorded_keeps g.F.Family.meaning before after (reading c.loop-tick.tick w.in-Some.row.now) w.record.result w.record.ensures.is in (
-            ap (λ (t : OpenTape). t.width) w.tape-is ∙ k.wide ∙ i.0,
-            ap length w.store-is ∙ w.record.auto.store ∙ i.1 ∙ sym k.long ∙ sym (ap (λ (t : OpenTape). t.length) w.tape-is),
-          )
-      | in_default w ↦ (
-        ap (λ (t : OpenTape). t.width) w.tape-is ∙ i.0,
-        ap length w.store-is ∙ i.1 ∙ sym (ap (λ (t : OpenTape). t.length) w.tape-is),
-      )
-    ]
+    let before = world (view c.loop-tick.tape) c.loop-tick.family c.loop-tick.store in
+    let after = world (view c.record.new.self) c.record.new.family c.record.new.store in
+    let read = reading c.in-Some.tick c.in-Some.row.now in
+    let k = recorded_keeps g.F.Family.meaning before after read c.record.result c.record.ensures.is in
+    record {
+      wide = k.wide ∙ i.wide;
+      long = c.record.auto.store ∙ i.long ∙ sym k.long;
+      places = recorded_places g.F.Family.meaning before after read c.record.result c.record.ensures.is ∙ i.places;
+    }
+
+pub returns : goal.returns
+returns g c =
+    subst (λ (n : ℕ). c.unwrap.result.segments ≤ n) c.loop-tick.invariant.places
+    (closed_within g.F.Family.meaning (world (view c.loop-tick.tape) c.loop-tick.family c.loop-tick.store) c.close.result
+    c.unwrap.result c.loop-tick.tape.room c.unwrap.ensures c.close.ensures.is.answer)

@@ -1,6 +1,11 @@
 use Rattle.std.proofs.Common.{◌≡◌, length}
-use Rattle.recorder.specs.Steps.{view}
+use Rattle.recorder.specs.Steps.{view, opened_view}
 use Rattle.bench.proofs.measure.measure.Given as goal
 
 abbrev pub invariant-loop-tick : goal.invariant-loop-tick
-invariant-loop-tick g l = ((view l.tape).width ≡ g.F.Family.meaning.pick_width) × (length l.store ≡ (view l.tape).length)
+invariant-loop-tick g l =
+    record {
+      wide : (view l.tape).width ≡ g.F.Family.meaning.pick_width;
+      long : length l.store ≡ (view l.tape).length;
+      places : (view l.tape).places ≡ (opened_view g.F.Family.meaning.pick_width (length l.fn.store)).places;
+    }
