@@ -15,7 +15,7 @@ pub fn measure<F: Family, const WIDTH: usize>(
     ensures { result ≤ (opened_view F.Family.meaning.pick_width (length store.old)).places }
 {
     let mut tape = OpenTape::open(family, store);
-    for (tick, row) in (0..readings).zip(rows.iter().cycle()) {
+    for (row, tick) in rows.iter().cycle().zip(0..readings) {
         let _ = tape.record(family, store, tick, row);
     }
     tape.close(family, store).unwrap().segments

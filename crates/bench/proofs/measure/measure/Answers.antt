@@ -6,10 +6,10 @@ use Rattle.recorder.proofs.Kept.{recorded_keeps}
 use Rattle.bench.proofs.Places.{recorded_places, closed_within}
 use Rattle.bench.proofs.measure.measure.Goals as goal
 
-pub loop-tick-preserved : goal.loop-tick-preserved
-loop-tick-preserved g c =
-    let i = c.loop-tick.invariant in
-    let before = world (view c.loop-tick.tape) c.loop-tick.family c.loop-tick.store in
+pub loop-row-preserved : goal.loop-row-preserved
+loop-row-preserved g c =
+    let i = c.loop-row.invariant in
+    let before = world (view c.loop-row.tape) c.loop-row.family c.loop-row.store in
     let after = world (view c.record.new.self) c.record.new.family c.record.new.store in
     let read = reading c.in-Some.tick c.in-Some.row.now in
     let k = recorded_keeps g.F.Family.meaning before after read c.record.result c.record.ensures.is in
@@ -21,6 +21,6 @@ loop-tick-preserved g c =
 
 pub returns : goal.returns
 returns g c =
-    subst (λ (n : ℕ). c.unwrap.result.segments ≤ n) c.loop-tick.invariant.places
-    (closed_within g.F.Family.meaning (world (view c.loop-tick.tape) c.loop-tick.family c.loop-tick.store) c.close.result
-    c.unwrap.result c.loop-tick.tape.room c.unwrap.ensures c.close.ensures.is.answer)
+    subst (λ (n : ℕ). c.unwrap.result.segments ≤ n) c.loop-row.invariant.places
+    (closed_within g.F.Family.meaning (world (view c.loop-row.tape) c.loop-row.family c.loop-row.store) c.close.result
+    c.unwrap.result c.loop-row.tape.room c.unwrap.ensures c.close.ensures.is.answer)

@@ -2,8 +2,8 @@ use Rattle.std.proofs.Common.{◌≡◌, length}
 use Rattle.recorder.specs.Steps.{view, opened_view}
 use Rattle.bench.proofs.measure.measure.Given as goal
 
-abbrev pub invariant-loop-tick : goal.invariant-loop-tick
-invariant-loop-tick g l =
+abbrev pub invariant-loop-row : goal.invariant-loop-row
+invariant-loop-row g l =
     record {
       wide : (view l.tape).width ≡ g.F.Family.meaning.pick_width;
       long : length l.store ≡ (view l.tape).length;
