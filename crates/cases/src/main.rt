@@ -6,19 +6,15 @@ use std::{fs, io};
 
 // The number of the first line in which two texts differ, from 1.
 fn first_difference(said: &str, wanted: &str) -> Option<usize> {
-    let mut theirs = wanted.lines();
-    let mut line = 0usize;
-    for ours in said.lines() {
-        line = line.saturating_add(1);
-        match theirs.next() {
-            Some(text) if text == ours => {}
-            _ => return Some(line),
-        }
+    if said.lines().eq(wanted.lines()) {
+        return None;
     }
-    match theirs.next() {
-        Some(_) => Some(line.saturating_add(1)),
-        None => None,
-    }
+    let same = said
+        .lines()
+        .zip(wanted.lines())
+        .take_while(|(ours, theirs)| ours == theirs)
+        .count();
+    Some(same + 1)
 }
 
 // Where the answers to a script differ from those that are wanted.
