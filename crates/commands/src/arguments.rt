@@ -4,7 +4,7 @@ ghost use Rattle.script.specs.Numbers.{number_of, word_of};
 ghost use Rattle.commands.specs.Bounds.{Narrow};
 
 use super::{Form, Unread};
-use script::{item, number};
+use script::{Item, number};
 use std::alloc::Global;
 
 // A store's length in words.
@@ -48,7 +48,7 @@ pub(crate) fn width(texts: &[&str], form: Form) -> Result<Option<u32>, Unread>
 pub(crate) fn row(heap: Global, texts: &[&str]) -> Result<Vec<u32>, Unread> {
     let mut row = Vec::new(heap);
     for text in texts {
-        item(text)?.add(&mut row)?;
+        text.parse::<Item>()?.add(&mut row)?;
     }
     Ok(row)
 }

@@ -9,4 +9,3 @@ mod texts;
 pub use digits::{number, word};
 pub use items::Item;
 pub use slip::Slip;
-pub use texts::item;

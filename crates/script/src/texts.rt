@@ -1,9 +1,10 @@
 ghost use Rattle.std.specs.Prelude.{◌≡◌, ◌+◌, ◌*◌, ◌^◌, ◌<◌, ◌++◌, IfSome, OnOk};
 ghost use Rattle.words.specs.Kinds.{kind_number};
-ghost use Rattle.script.specs.Rows.{item_words, end_of, band_of, mask_of, any_of, ReadItem};
+ghost use Rattle.script.specs.Rows.{item_words, end_of, band_of, mask_of, any_of};
 
 use super::{Item, Slip, digits};
 use std::alloc::AllocError;
+use std::str::FromStr;
 use words::Kind;
 
 impl Item {
@@ -70,17 +71,23 @@ fn any_word(text: &str) -> Option<Item>
     digits::word(text).map(Item::One)
 }
 
-// The item that a text writes: a mask `mN`, a word `xHHHHHHHH` or a band `a..b`.
-pub fn item(text: &str) -> Result<Item, Slip>
-    ensures { ReadItem text.now result }
-{
-    if let Some(rest) = text.strip_prefix('m') {
-        mask(rest).ok_or(Slip::Mask)
-    } else if let Some(rest) = text.strip_prefix('x') {
-        any_word(rest).ok_or(Slip::Word)
-    } else if let Some((low, high)) = text.split_once("..") {
-        band(low, high).ok_or(Slip::End)
-    } else {
-        Err(Slip::Item)
+impl FromStr for Item {
+    type Err = Slip;
+
+    ghost use Rattle.script.specs.Rows.{ReadItem};
+
+    ghost from_str_gives = { ReadItem };
+
+    // The item that a text writes: a mask `mN`, a word `xHHHHHHHH` or a band `a..b`.
+    fn from_str(text: &str) -> Result<Item, Slip> {
+        if let Some(rest) = text.strip_prefix('m') {
+            mask(rest).ok_or(Slip::Mask)
+        } else if let Some(rest) = text.strip_prefix('x') {
+            any_word(rest).ok_or(Slip::Word)
+        } else if let Some((low, high)) = text.split_once("..") {
+            band(low, high).ok_or(Slip::End)
+        } else {
+            Err(Slip::Item)
+        }
     }
 }

@@ -1,7 +1,7 @@
 use Rattle.std.proofs.Common.{[], ◌∷◌, Some, None, lit<}
 use Rattle.std.proofs.lemmas.Str.Pattern.{strip_prefix_char, split_text_parts}
 use Rattle.script.proofs.Parts.{as_band}
-use Rattle.script.proofs.texts.item.Goals as goal
+use Rattle.script.proofs.texts.ItemFromStr.from_str.Goals as goal
 
 pub returns-in-Some-split_once : goal.returns-in-Some-split_once
 returns-in-Some-split_once c =
