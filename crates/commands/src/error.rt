@@ -66,8 +66,13 @@ impl<T: Drop> From<AllocFailed<T>> for Unread {
 }
 
 impl From<Slip> for Unread {
-    fn from(slip: Slip) -> Unread {
-        Unread::Item(slip)
+    ghost use Rattle.std.specs.Prelude.{◌≡◌};
+    ghost use Rattle.commands.specs.declared.error.Unread.TheVariants.{Item};
+
+    ghost from_gives = { λ e unread. unread ≡ Item e };
+
+    fn from(e: Slip) -> Unread {
+        Unread::Item(e)
     }
 }
 

@@ -2,7 +2,6 @@ use commands::Unread;
 use std::alloc::{AllocError, AllocFailed};
 use std::error::Error;
 use std::fmt;
-use std::str::Utf8Error;
 
 // Why a line has an error for its answer.
 #[derive(Clone, Copy, PartialEq, Eq, Debug)]
@@ -32,15 +31,14 @@ impl<T: Drop> From<AllocFailed<T>> for Problem {
     }
 }
 
-impl From<Utf8Error> for Problem {
-    fn from(_e: Utf8Error) -> Problem {
-        Problem::NoText
-    }
-}
-
 impl From<Unread> for Problem {
-    fn from(unread: Unread) -> Problem {
-        Problem::Unread(unread)
+    ghost use Rattle.std.specs.Prelude.{◌≡◌};
+    ghost use Rattle.desk.specs.declared.problem.Problem.TheVariants as problems;
+
+    ghost from_gives = { λ e problem. problem ≡ problems.Unread e };
+
+    fn from(e: Unread) -> Problem {
+        Problem::Unread(e)
     }
 }
 

@@ -7,7 +7,7 @@ use std::io::{BufRead, BufReader};
 
 // The command of a line of a script, or none where the line is empty or a comment.
 fn command_of(heap: Global, line: &[u8]) -> Result<Option<Command>, Problem> {
-    let text = std::str::from_utf8(line)?;
+    let text = std::str::from_utf8(line).map_err(|_| Problem::NoText)?;
     Ok(read(heap, text)?)
 }
 
