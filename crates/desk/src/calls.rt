@@ -36,7 +36,7 @@ fn told_mark(told: Result<(), Refusal>) -> Answer
     told.map_or_else(Answer::Refused, |()| Answer::Marked)
 }
 
-fn told_item(heap: Global, item: Item<'_>) -> Result<Answer, AllocError> {
+fn told_item(heap: Global, item: Item<'_>) -> Result<Answer, Problem> {
     match item {
         Item::BatchStart { place, words } => Ok(Answer::Batch(place, words.to_vec(heap)?)),
         Item::Continuation { place, words } => Ok(Answer::Continuation(place, words.to_vec(heap)?)),
@@ -85,10 +85,10 @@ pub(crate) fn serve_closed<F: Family>(
             let told = value::<F>(store, tick, row.as_mut_slice());
             Ok(told_row(told, row))
         }
-        Command::ItemAt { index } => match item_at::<F>(store, index) {
-            Ok(item) => Ok(told_item(heap, item)?),
-            Err(refusal) => Ok(Answer::Refused(refusal)),
-        },
+        Command::ItemAt { index } => item_at::<F>(store, index).map_or_else(
+            |refusal| Ok(Answer::Refused(refusal)),
+            |item| told_item(heap, item),
+        ),
         Command::Check => Ok(checked::<F>(store)),
         _ => Err(Problem::IsClosed),
     }
