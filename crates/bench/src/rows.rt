@@ -5,7 +5,7 @@ use std::alloc::{AllocError, Global};
 use words::{Kind, Word};
 
 fn word(kind: Kind, number: i32) -> u32 {
-    Word::new(kind, number).map_or(0, |word| word.bits())
+    Word::new(kind, number).map_or(0, u32::from)
 }
 
 fn band(low: i32, high: i32) -> [u32; 2] {

@@ -1,5 +1,4 @@
 ghost use Rattle.std.specs.Prelude.{◌≡◌, ◌≤◌, vec_capacity};
-ghost use Rattle.recorder.specs.Steps.{view};
 ghost use Rattle.desk.specs.Widths.{pick_width_of};
 
 use commands::FamilyName;
@@ -12,7 +11,7 @@ pub(crate) struct Recording {
     pub(crate) name: FamilyName,
     pub(crate) length: usize,
     pub(crate) store: Vec<u32>,
-    ghost wide: { (view tape).width ≡ pick_width_of name },
-    ghost long: { (view tape).length ≡ length },
+    ghost wide: { tape.width ≡ pick_width_of name },
+    ghost long: { tape.length ≡ length },
     ghost room: { length ≤ vec_capacity store },
 }

@@ -1,6 +1,5 @@
 ghost use Rattle.std.specs.Prelude.{◌≡◌};
 ghost use Rattle.family.specs.Readings.{reading};
-ghost use Rattle.recorder.specs.Steps.{view};
 ghost use Rattle.recorder.specs.Histories.{world, Opened, Recorded, Marked, Asked};
 ghost use Rattle.desk.specs.Widths.{pick_width_of};
 
@@ -19,7 +18,7 @@ impl Recording {
     // Opens a tape over the store.
     pub(crate) fn open<F: Family>(name: FamilyName, family: &mut F, store: Vec<u32>) -> Recording
         requires { F.Family.meaning.pick_width ≡ pick_width_of name }
-        ensures { Opened F.Family.meaning store.items (world (view result.tape) family.new result.store.items) }
+        ensures { Opened F.Family.meaning store.items (world result.tape family.new result.store.items) }
     {
         let mut store = store;
         let length = store.len();
@@ -38,14 +37,14 @@ impl Recording {
         tick: u32,
         row: &[u32],
     ) -> Result<u32, Refusal>
-        ensures { Recorded F.Family.meaning (world (view self.old.tape) family.old self.old.store.items) (reading tick row.now) result (world (view self.new.tape) family.new self.new.store.items) }
+        ensures { Recorded F.Family.meaning (world self.old.tape family.old self.old.store.items) (reading tick row.now) result (world self.new.tape family.new self.new.store.items) }
     {
         self.tape
             .record(family, self.store.as_mut_slice(), tick, row)
     }
 
     pub(crate) fn mark<F: Family>(&mut self, family: &mut F) -> Result<(), Refusal>
-        ensures { Marked F.Family.meaning (world (view self.old.tape) family.old self.old.store.items) result (world (view self.new.tape) family.new self.new.store.items) }
+        ensures { Marked F.Family.meaning (world self.old.tape family.old self.old.store.items) result (world self.new.tape family.new self.new.store.items) }
     {
         self.tape.mark(family, self.store.as_mut_slice())
     }
@@ -56,7 +55,7 @@ impl Recording {
         tick: u32,
         row: &mut [u32],
     ) -> Result<(), Refusal>
-        ensures { Asked F.Family.meaning (world (view self.now.tape) family.now self.now.store.items) tick row.old result row.new }
+        ensures { Asked F.Family.meaning (world self.now.tape family.now self.now.store.items) tick row.old result row.new }
     {
         self.tape.ask(family, self.store.as_slice(), tick, row)
     }

@@ -14,7 +14,7 @@ use Rattle.hull.specs.declared.point.Point.{Point}
 use Rattle.hull.specs.declared.hull.Hull.{Hull}
 use Rattle.line.specs.declared.line.Line.{Line}
 use Rattle.line.specs.declared.step.Step.{Step}
-use Rattle.line.specs.declared.span.Span.{Span}
+use Rattle.line.specs.declared.taken.Taken.{Taken}
 use Rattle.slope.specs.Slopes.{Slope, meeting}
 use Rattle.hull.specs.Hulls.{ends, pushed, steepest_to}
 use Rattle.line.specs.Sound.{Sound}
@@ -27,7 +27,7 @@ use Rattle.line.specs.Choosing.{some_points, no_points}
 use Rattle.line.proofs.Fitting.{fits_from, fits_meets, taken_sound, least_with, fall_with}
 use Rattle.line.specs.Spans.{first_of, window}
 
-module _ (s : Line) (r : Reading) (a b : Point) (p q : Slope) (d : Span) (ea : a ≡ low_end r) (eb : b ≡ high_end r)
+module _ (s : Line) (r : Reading) (a b : Point) (p q : Slope) (d : Taken) (ea : a ≡ low_end r) (eb : b ≡ high_end r)
     (ep : p ≡ steepest_to a s.bounds.least (ends s.highs)) (eq : q ≡ steepest_to b s.bounds.fall (ends s.lows))
     (h : Reaches s r.tick) (ed : d.first ≡ where_none s.lows.len r.tick (first_of s.span)) (et : d.last ≡ r.tick) (lo hi : ℤ) (el : lo ≡ low_of r.row) (eh : hi ≡ high_of r.row) (o : lo ≤ℤ hi) where
   ordered : low_of r.row ≤ℤ high_of r.row
@@ -87,7 +87,7 @@ pub stepped_at : (s : Line) (r : Reading) (d : Step) (o : Option Step) → o ≡
 stepped_at s r d o e h = subst (Steps s r) e h
 
 -- the hulls after a step have room for one point more
-module _ (s : Line) (r : Reading) (d : Span) (ef : d.first ≡ where_none s.lows.len r.tick (first_of s.span)) (et : d.last ≡ r.tick) (h : Reaches s r.tick) where
+module _ (s : Line) (r : Reading) (d : Taken) (ef : d.first ≡ where_none s.lows.len r.tick (first_of s.span)) (et : d.last ≡ r.tick) (h : Reaches s r.tick) where
   pub room_after : (lows' highs' : Hull) → lows'.len ≤ s.lows.len + 1 → highs'.len ≤ s.highs.len + 1 → 0 < lows'.len
       → (lows'.len ≤ d.last + 1 - d.first) × (highs'.len ≤ d.last + 1 - d.first) × (highs'.len ≤ 256 * lows'.len)
   room_after lows' highs' a b p = by s.lows.len refl where

@@ -27,3 +27,6 @@ module _ (lows highs : Hull) (least fall : Slope) (first last : ℕ) (s : Sound 
 
 pub slope_positive : (lows highs : Hull) (least fall : Slope) (first last : ℕ) → ∥ Sound lows highs least fall first last ∥₁ → pos 0 <ℤ (slope_of least fall).1
 slope_positive lows highs least fall first last h = ∥∥₁_elim h (lt_once _ _) (λ s. (slope_nearest lows highs least fall first last s).over)
+
+pub nearest_positive : (lows highs : Hull) (least fall : Slope) (first last : ℕ) → ∥ Sound lows highs least fall first last ∥₁ → pos 0 <ℤ (nearest_of least fall).1
+nearest_positive lows highs least fall first last h = ∥∥₁_elim h (lt_once _ _) (λ s. (near lows highs least fall first last s).over)

@@ -7,7 +7,7 @@ use Rattle.line.specs.declared.step.Step.{Step}
 use Rattle.hull.specs.Hulls.{ends, steepest_to}
 use Rattle.line.specs.Choices.{low_end, high_end}
 use Rattle.line.specs.LineMeaning.{line_meaning, Reaches}
-use Rattle.line.specs.declared.span.Span.{Span}
+use Rattle.line.specs.declared.taken.Taken.{Taken}
 use Rattle.line.specs.Picks.{where_none}
 use Rattle.line.specs.Spans.{first_of}
 
@@ -25,5 +25,5 @@ abbrev pub Steps : Line → Reading → Option Step → Type 0
 Steps s r o = MatchOption o (Fits line_meaning s r → ⊥) (λ d. Fits line_meaning s r × Reaches s r.tick × Stepped s r d)
 
 -- the span with a tick more, if any: none where the tick is not reached
-abbrev pub Spans : Line → ℕ → Option Span → Type 0
+abbrev pub Spans : Line → ℕ → Option Taken → Type 0
 Spans s t o = MatchOption o (Reaches s t → ⊥) (λ d. Reaches s t × (d.first ≡ where_none s.lows.len t (first_of s.span)) × (d.last ≡ t))

@@ -1,5 +1,5 @@
 -- A reading taken into a state: which lines serve it too, and that the state is sound then.
-use Rattle.std.specs.Prelude.{◌≡◌, ℕ, ◌+◌, ◌<◌, ◌≤◌, true, List, [], ◌∷◌, reverse, take, ℤ, pos, ◌+ℤ◌, ◌*ℤ◌, ◌≤ℤ◌, refl}
+use Rattle.std.specs.Prelude.{◌<ℤ◌, ◌≡◌, ℕ, ◌+◌, ◌<◌, ◌≤◌, true, List, [], ◌∷◌, reverse, take, ℤ, pos, ◌+ℤ◌, ◌*ℤ◌, ◌≤ℤ◌, refl}
 use Rattle.std.proofs.Common.{ap, ap₂, sym, ◌∙◌, subst, inr, arith}
 use Rattle.std.specs.List.{AllByRecursion}
 use Rattle.std.proofs.ByRecursion.{All-weaker}
@@ -38,6 +38,9 @@ module _ (lows highs : Hull) (least fall : Slope) (a b : Point) (bounds : Bounds
   after = bounds_more (ends lows) (ends highs) least fall a b bounds e w lows_before highs_before
 
   -- where the bounds meet, the line of the slope nearest 0 through the highest low end serves them all
+  pub joint_over : meeting least' fall' ≡ true → pos 0 <ℤ (nearest_of least' fall').1
+  joint_over m = (nearest_is least' fall' after.low after.high (omega (arith, lins))).over
+
   pub joint_line : meeting least' fall' ≡ true →
       Serves (a ∷ ends lows) (b ∷ ends highs) (nearest_of least' fall').0 (nearest_of least' fall').1 (lift (nearest_of least' fall') (topmost (nearest_of least' fall') (a ∷ ends lows)))
   joint_line m =

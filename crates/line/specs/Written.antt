@@ -1,6 +1,7 @@
 -- The four words of a pick: written, and read again.
-use Rattle.std.specs.Prelude.{◌≡◌, ℕ, ◌<◌, ◌≤◌, Bool, true, ◌&&◌, List, pos, neg_ℤ, Some, Option, slice_index}
-use Rattle.std.proofs.Common.{ap, subst, ◌∙◌, arith}
+use Rattle.std.specs.Prelude.{◌≡◌, ℕ, ◌<◌, ◌≤◌, Bool, true, ◌&&◌, List, [], ◌∷◌, length, pos, neg_ℤ, IfSome, Some, Option, slice_index, slice_set, refl}
+use Rattle.std.proofs.Common.{ap, subst, ◌∙◌, arith, to_z}
+use Rattle.std.specs.Int.{w32}
 use Rattle.std.proofs.lemmas.Int.{ints}
 use Rattle.std.proofs.lemmas.Bool.{and_parts, and_from}
 use Rattle.words.specs.declared.kind.Kind.TheVariants.{Level, Pivot, Height, Rise, Over}
@@ -14,6 +15,14 @@ use Rattle.line.specs.Words.{Read}
 use Rattle.line.specs.Ranges.{pick_same}
 use Rattle.line.specs.ValuesLemmas.{between_values}
 
+set_four : (xs : List ℕ) (a b c d : ℕ) → length xs ≡ 4 → slice_set (slice_set (slice_set (slice_set xs 0 a) 1 b) 2 c) 3 d ≡ a ∷ b ∷ c ∷ d ∷ []
+set_four [] a b c d h = absurd (omega arith)
+set_four (w ∷ []) a b c d h = absurd (omega arith)
+set_four (w ∷ x ∷ []) a b c d h = absurd (omega arith)
+set_four (w ∷ x ∷ y ∷ []) a b c d h = absurd (omega arith)
+set_four (w ∷ x ∷ y ∷ z ∷ []) a b c d h = refl
+set_four (w ∷ x ∷ y ∷ z ∷ (v ∷ vs)) a b c d h = absurd (omega arith)
+
 -- the parts of a test of four
 all_four : (a b c d : Bool) → (a && (b && (c && d))) ≡ true → (a ≡ true) × (b ≡ true) × (c ≡ true) × (d ≡ true)
 all_four a b c d h =
@@ -26,6 +35,26 @@ all_four a b c d h =
 module _ (p : Pick) (h : numbers_hold p ≡ true) where
   in_parts : (in_range Pivot (pos p.pivot) ≡ true) × (in_range Height p.height ≡ true) × (in_range Rise p.rise ≡ true) × (in_range Over (pos p.over) ≡ true)
   in_parts = all_four (in_range Pivot (pos p.pivot)) (in_range Height p.height) (in_range Rise p.rise) (in_range Over (pos p.over)) h
+
+  pivot_small : p.pivot ≤ 268435455
+  pivot_small = let k = range_high Pivot (pos p.pivot) in_parts.0 in omega (arith, ints, k)
+
+  over_small : p.over ≤ 255
+  over_small = let k = range_high Over (pos p.over) in_parts.3 in omega (arith, ints, k)
+
+  pub over_some : 0 < p.over
+  over_some = let k = range_low Over (pos p.over) in_parts.3 in omega (arith, ints, k)
+
+  pub words_written : (xs : List ℕ) (a b c d : ℕ) → length xs ≡ 4 → a ≡ word_of Pivot (to_z w32 p.pivot) → b ≡ word_of Height p.height → c ≡ word_of Rise p.rise → d ≡ word_of Over (to_z w32 p.over)
+      → slice_set (slice_set (slice_set (slice_set xs 0 a) 1 b) 2 c) 3 d ≡ pick_words p
+  words_written xs a b c d l ea eb ec ed =
+      let u = pivot_small in
+      let v = over_small in
+      let ep : to_z w32 p.pivot ≡ pos p.pivot = omega (arith, ints, u) in
+      let eo : to_z w32 p.over ≡ pos p.over = omega (arith, ints, v) in
+      let ea' = ea ∙ ap (word_of Pivot) ep in
+      let ed' = ed ∙ ap (word_of Over) eo in
+      set_four xs a b c d l ∙ cc
 
   held_pivot : payload (word_of Pivot (pos p.pivot)) ≡ p.pivot
   held_pivot = let e = number_back Pivot (pos p.pivot) (range_low Pivot _ in_parts.0) (range_high Pivot _ in_parts.0) in omega (arith, ints, e)
@@ -68,3 +97,6 @@ module _ (ws : List ℕ) (f l : ℕ) (h : words_lawful ws f l ≡ true) where
 
 pub lawful_value : (ws : List ℕ) (f l t : ℕ) (p : Pick) (o : Option Pick) → o ≡ Some p → Read ws o → words_lawful ws f l ≡ true → f ≤ t → t ≤ l → in_reach p t ≡ true
 lawful_value ws f l t p o e k h a b = ap (λ (q : Pick). in_reach q t) (subst (Read ws) e k).1 ∙ lawful_reach ws f l h t a b
+
+pub read_over : (p : Pick) (o : Option Pick) → o ≡ Some p → IfSome o (λ q. 0 < q.over) → 0 < p.over
+read_over p o e k = subst (λ (x : Option Pick). IfSome x (λ q. 0 < q.over)) e k

@@ -3,7 +3,7 @@ ghost use Rattle.line.specs.Keeps.{line_laws};
 
 use crate::line::Line;
 use crate::pick::Pick;
-use family::{Band, Family, check_length, clear};
+use family::{Band, Family, Span, check_length, clear};
 use words::{Reason, Refusal};
 
 impl Family for Line {
@@ -52,23 +52,17 @@ impl Family for Line {
         Ok(())
     }
 
-    fn check(words: &[u32], first: u32, last: u32) -> Result<(), Refusal> {
+    fn check(words: &[u32], span: Span) -> Result<(), Refusal> {
         check_length(4, words.len(), Reason::WordsLength)?;
         match Pick::read(words) {
-            Some(pick) if pick.is_lawful(first, last) => Ok(()),
+            Some(pick) if pick.is_lawful(span) => Ok(()),
             _ => Err(Refusal::new(Reason::Unlawful)),
         }
     }
 
-    fn value(
-        words: &[u32],
-        first: u32,
-        last: u32,
-        tick: u32,
-        row: &mut [u32],
-    ) -> Result<(), Refusal> {
+    fn value(words: &[u32], span: Span, tick: u32, row: &mut [u32]) -> Result<(), Refusal> {
         clear(row);
-        Self::check_value(words, first, last, tick, row.len())?;
+        Self::check_value(words, span, tick, row.len())?;
         row[0] = Pick::read(words).unwrap().level_at(tick);
         Ok(())
     }

@@ -9,9 +9,9 @@ mod calls;
 mod choose;
 mod line;
 mod pick;
-mod span;
 mod state;
 mod step;
+mod taken;
 
 pub use line::Line;
 pub use pick::Pick;

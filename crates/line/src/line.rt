@@ -3,7 +3,7 @@ ghost use Rattle.slope.specs.Slopes.{slope_of};
 ghost use Rattle.line.specs.Sound.{Sound};
 ghost use Rattle.line.specs.Spans.{first_of, last_of};
 
-use crate::span::Span;
+use crate::taken::Taken;
 use hull::Hull;
 use slope::Bounds;
 
@@ -15,7 +15,7 @@ pub struct Line {
     pub(crate) lows: Hull,
     pub(crate) highs: Hull,
     pub(crate) bounds: Bounds,
-    pub(crate) span: Option<Span>,
+    pub(crate) span: Option<Taken>,
     ghost told: { is_some span ≡ nat_lt 0 lows.len },
     ghost room: { (lows.len ≤ last_of span + 1 - first_of span) × (highs.len ≤ last_of span + 1 - first_of span) × (highs.len ≤ 256 * lows.len) },
     ghost range: { last_of span ≤ 268435455 },

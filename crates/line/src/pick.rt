@@ -5,6 +5,7 @@ ghost use Rattle.words.specs.Words.{word_of};
 ghost use Rattle.line.specs.Picks.{level_pick, numbers_hold, pick_words, height_at, lowest_terms, pivot_placed, in_reach, pick_lawful};
 ghost use Rattle.line.specs.Words.{Read};
 
+use family::Span;
 use slope::{gcd, value_at};
 use std::marker::Model;
 use words::{Kind, Word, payload};
@@ -37,7 +38,7 @@ fn word(kind: Kind, number: i32) -> u32
     requires { in_range kind number ≡ true }
     ensures { result ≡ word_of kind number }
 {
-    Word::new(kind, number).unwrap().bits()
+    u32::from(Word::new(kind, number).unwrap())
 }
 
 impl Pick {
@@ -92,10 +93,10 @@ impl Pick {
     }
 
     // Whether the pivot is at most the last tick, and from 0 to over − 1 past the first.
-    fn is_placed(&self, first: u32, last: u32) -> bool
-        ensures { result ≡ pivot_placed self.now first last }
+    fn is_placed(&self, span: Span) -> bool
+        ensures { result ≡ pivot_placed self.now span.first span.last }
     {
-        (first..=last).contains(&self.pivot) && self.pivot - first < self.over
+        span.holds(self.pivot) && self.pivot - span.first < self.over
     }
 
     // The height at a tick, rounded down.
@@ -113,13 +114,13 @@ impl Pick {
     }
 
     // Whether the pick is lawful for a first and a last tick.
-    pub(crate) fn is_lawful(&self, first: u32, last: u32) -> bool
-        ensures { result ≡ pick_lawful self.now first last }
+    pub(crate) fn is_lawful(&self, span: Span) -> bool
+        ensures { result ≡ pick_lawful self.now span.first span.last }
     {
         self.is_lowest_terms()
-            && self.is_placed(first, last)
-            && self.is_in_reach(first)
-            && self.is_in_reach(last)
+            && self.is_placed(span)
+            && self.is_in_reach(span.first)
+            && self.is_in_reach(span.last)
     }
 
     // The LEVEL word of the height at a tick.

@@ -8,8 +8,8 @@ ghost use Rattle.line.specs.LineMeaning.{line_meaning};
 ghost use Rattle.line.specs.Steps.{Spans, Steps};
 
 use crate::line::Line;
-use crate::span::Span;
 use crate::step::Step;
+use crate::taken::Taken;
 use family::Band;
 use hull::{Hull, Point};
 use slope::Bounds;
@@ -60,7 +60,7 @@ impl Line {
     }
 
     // The span with a tick more: none where the tick does not come after the last one taken and at most 255 after the first.
-    fn span_with(&self, tick: u32) -> Option<Span>
+    fn span_with(&self, tick: u32) -> Option<Taken>
         ensures { Spans self.now tick result }
     {
         let first = match self.span {
@@ -68,7 +68,7 @@ impl Line {
             Some(span) if span.last < tick && tick - span.first <= 255 => span.first,
             Some(_) => return None,
         };
-        Some(Span { first, last: tick })
+        Some(Taken { first, last: tick })
     }
 
     // The bounds of the slope with a low end and a high end more, the high one turned over. Each tightens one bound, by the

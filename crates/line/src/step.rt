@@ -1,7 +1,7 @@
 ghost use Rattle.std.specs.Prelude.{◌≡◌, ◌+◌, ◌<◌, ◌≤◌};
 ghost use Rattle.hull.specs.Hulls.{ends, pushed};
 
-use crate::span::Span;
+use crate::taken::Taken;
 use hull::{Hull, Point};
 use slope::Bounds;
 
@@ -12,7 +12,7 @@ pub(crate) struct Step {
     pub(crate) low: Point,
     pub(crate) high: Point,
     pub(crate) bounds: Bounds,
-    pub(crate) span: Span,
+    pub(crate) span: Taken,
 }
 
 impl Step {

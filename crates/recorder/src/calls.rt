@@ -1,6 +1,7 @@
 ghost use Rattle.std.specs.Prelude.{◌≡◌, List, [], length};
 ghost use Rattle.cuttings.specs.Cutting.{Event as Logged};
 ghost use Rattle.family.specs.Readings.{reading};
+ghost use Rattle.recorder.specs.Views.{Sound};
 ghost use Rattle.recorder.specs.Recording.{early_refusal, RecordedBy};
 ghost use Rattle.recorder.specs.Histories.{world, noted, parted, Opened, Recorded, Marked, Closed, Dealt};
 ghost use Rattle.recorder.specs.Law.{Law, LawAt};
@@ -13,9 +14,10 @@ use layout::places;
 use words::Refusal;
 
 impl OpenTape {
-    // How many segments the store has room for.
+    // How many segments the store has room for. What holds of every open tape is told here to whoever holds one.
     pub fn places(&self) -> u32
-        ensures { result ≡ self.now.places }
+        ensures is { result ≡ self.now.places }
+        ensures sound { Sound self.now }
     {
         self.places
     }

@@ -1,5 +1,4 @@
-ghost use Rattle.std.specs.Prelude.{◌≡◌, ◌+◌, ◌*◌, ◌^◌, ◌<◌, ◌++◌, IfSome, OnOk};
-ghost use Rattle.words.specs.Kinds.{kind_number};
+ghost use Rattle.std.specs.Prelude.{◌≡◌, ◌^◌, ◌<◌, ◌++◌, IfSome, OnOk};
 ghost use Rattle.script.specs.Rows.{item_words, end_of, band_of, mask_of, any_of};
 
 use super::{Item, Slip, digits};
@@ -29,14 +28,6 @@ const TOP: u32 = 268_435_455;
 // What is added to an end to make its payload, and so how far the lowest end is below 0.
 const BIAS: u32 = 2_000_000;
 
-// The word of a kind with a payload, in the kind's range or not.
-fn bits(kind: Kind, payload: u32) -> u32
-    requires { payload < 2 ^ 28 }
-    ensures { result ≡ kind_number kind * 268435456 + payload }
-{
-    kind.number() * 268_435_456 + payload
-}
-
 // The payload of a band's end, -2,000,000 to 266,435,455.
 fn end(text: &str) -> Option<u32>
     ensures value { result ≡ end_of text.now }
@@ -52,8 +43,8 @@ fn end(text: &str) -> Option<u32>
 fn band(low: &str, high: &str) -> Option<Item>
     ensures { result ≡ band_of low.now high.now }
 {
-    let low = bits(Kind::Low, end(low)?);
-    let high = bits(Kind::High, end(high)?);
+    let low = Kind::Low.with_payload(end(low)?);
+    let high = Kind::High.with_payload(end(high)?);
     Some(Item::Band(low, high))
 }
 
@@ -61,7 +52,7 @@ fn band(low: &str, high: &str) -> Option<Item>
 fn mask(text: &str) -> Option<Item>
     ensures { result ≡ mask_of text.now }
 {
-    digits::number(text, TOP).map(|payload| Item::One(bits(Kind::Mask, payload)))
+    digits::number(text, TOP).map(|payload| Item::One(Kind::Mask.with_payload(payload)))
 }
 
 // Any word, from the text after its `x`.

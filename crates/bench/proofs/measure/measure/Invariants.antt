@@ -1,11 +1,13 @@
 use Rattle.std.proofs.Common.{◌≡◌, length}
-use Rattle.recorder.specs.Steps.{view, opened_view}
+use Rattle.recorder.specs.Steps.{opened_view}
+use Rattle.bench.proofs.Places.{HasRoom}
 use Rattle.bench.proofs.measure.measure.Given as goal
 
 abbrev pub invariant-loop-row : goal.invariant-loop-row
 invariant-loop-row g l =
     record {
-      wide : (view l.tape).width ≡ g.F.Family.meaning.pick_width;
-      long : length l.store ≡ (view l.tape).length;
-      places : (view l.tape).places ≡ (opened_view g.F.Family.meaning.pick_width (length l.fn.store)).places;
+      wide : l.tape.width ≡ g.F.Family.meaning.pick_width;
+      long : length l.store ≡ l.tape.length;
+      places : l.tape.places ≡ (opened_view g.F.Family.meaning.pick_width (length l.fn.store)).places;
+      room : HasRoom l.tape;
     }

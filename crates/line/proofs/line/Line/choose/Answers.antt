@@ -6,7 +6,7 @@ use Rattle.slope.specs.Slopes.{Slope}
 use Rattle.hull.specs.declared.point.Point.{Point}
 use Rattle.hull.specs.Hulls.{ends, topmost}
 use Rattle.line.specs.declared.line.Line.{Line}
-use Rattle.line.specs.declared.span.Span.{Span}
+use Rattle.line.specs.declared.taken.Taken.{Taken}
 use Rattle.line.specs.Picks.{pick_through, numbers_hold}
 use Rattle.line.specs.LineMeaning.{Chosen, line_slope, line_pick}
 use Rattle.line.specs.Choosing.{anchor_from, pick_anchored, chosen, line_anchor, anchored}
@@ -15,19 +15,19 @@ use Rattle.line.proofs.line.Line.choose.Goals as goal
 use Rattle.line.specs.Spans.{first_of}
 
 -- a state with a span has a low end
-some_low : (s : Line) (t : Span) → s.span ≡ Some t → 0 < s.lows.len
+some_low : (s : Line) (t : Taken) → s.span ≡ Some t → 0 < s.lows.len
 some_low s t e = let k : nat_lt 0 s.lows.len ≡ true = sym s.told ∙ ap is_some e in grind (arith, nat_tests)
 
 -- the slope and the low end that the code finds are those picked through
-module _ (s : Line) (t : Span) (i : s.span ≡ Some t) (r : Slope) (p : Point) (e : r ≡ line_slope s) (f : p ≡ topmost r (ends s.lows)) where
+module _ (s : Line) (t : Taken) (i : s.span ≡ Some t) (r : Slope) (p : Point) (e : r ≡ line_slope s) (f : p ≡ topmost r (ends s.lows)) where
   found : p ≡ line_anchor s
   found = f ∙ ap (λ (m : Slope). topmost m (ends s.lows)) e
 
   through : pick_through t.first r p ≡ anchored s
-  through = ap₂ (pick_through t.first) e found ∙ ap (λ (o : Option Span). pick_through (first_of o) (line_slope s) (line_anchor s)) (sym i)
+  through = ap₂ (pick_through t.first) e found ∙ ap (λ (o : Option Taken). pick_through (first_of o) (line_slope s) (line_anchor s)) (sym i)
 
   not_before : t.first ≤ p.tick
-  not_before = subst (λ (o : Option Span). first_of o ≤ p.tick) i (subst (λ (q : Point). first_of s.span ≤ q.tick) (sym found) (∥∥₁_elim s.sound le_prop (λ x. anchor_from s (some_low s t i) x)))
+  not_before = subst (λ (o : Option Taken). first_of o ≤ p.tick) i (subst (λ (q : Point). first_of s.span ≤ q.tick) (sym found) (∥∥₁_elim s.sound le_prop (λ x. anchor_from s (some_low s t i) x)))
 
   in_range_through : Ranged (pick_through t.first r p)
   in_range_through = subst Ranged (sym through) (anchored_ranged s (some_low s t i))
