@@ -46,7 +46,8 @@ impl Tape {
         mem::replace(self, tape).end();
     }
 
-    // The tape after closing it with the family that is lent. Where that is refused it stays open.
+    // The tape after closing it with the family that is lent. Where that is refused it stays open. Closing takes an open tape
+    // by value, so the tape goes in and comes out.
     fn closed<F: Family>(self, family: &mut F) -> (Tape, Result<Answer, Problem>) {
         match self {
             Tape::Nothing => (Tape::Nothing, Err(Problem::NoTape)),

@@ -33,7 +33,7 @@ impl Model for Pick {
     ghost inverse = { λ n. record { pivot = n.pivot; height = n.height; rise = n.rise; over = n.over } };
 }
 
-// The word of a kind that holds a number.
+// The word of a kind that holds a number. It asks for a number in range, so it is no call for buyers.
 fn word(kind: Kind, number: i32) -> u32
     requires { in_range kind number ≡ true }
     ensures { result ≡ word_of kind number }

@@ -28,15 +28,14 @@ fn tape_word(width: u16) -> u32
 fn has_tape_word(store: &[u32], width: u16) -> bool
     ensures { result ≡ (nat_lt 0 (length store.now) && slice_index store.now 0 == tape_word width) }
 {
-    0 < store.len() && word_at(store, 0) == tape_word(width)
+    store.first() == Some(&tape_word(width))
 }
 
 // Whether the second word is COUNT, at most the places of the slice.
 fn has_count(store: &[u32], width: u16) -> bool
     ensures { result ≡ (nat_lt 1 (length store.now) && (of_kind Count (slice_index store.now 1) && nat_le (told_count store.now) (places_of width (length store.now)))) }
 {
-    1 < store.len()
-        && Kind::Count.names(word_at(store, 1))
+    store.get(1).is_some_and(|word| Kind::Count.names(*word))
         && told_count(store) <= places(width, store.len())
 }
 

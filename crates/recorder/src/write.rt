@@ -8,7 +8,7 @@ use family::{Family, Span};
 use layout::place_at;
 use words::{Kind, Refusal, Word};
 
-// The word of a kind that holds a number from 0 on.
+// The word of a kind that holds a number from 0 on. It asks for a number in range, so it is no call for buyers.
 fn word(kind: Kind, number: u32) -> u32
     requires held { in_range kind (pos number) ≡ true }
     requires small { number ≤ 268435455 }
