@@ -8,33 +8,33 @@ use std::fmt;
 #[derive(Clone, Copy, PartialEq, Eq, Debug)]
 pub enum Kind {
     // the lowest value that a reading allows
-    Low,
+    Low = 1,
     // the highest value that a reading allows
-    High,
+    High = 2,
     // a set of the grades 0 to 27: bit g stands for grade g
-    Mask,
+    Mask = 3,
     // the first tick of a segment that continues a batch
-    Start,
+    Start = 4,
     // the first tick of a batch's first segment
-    Batch,
+    Batch = 5,
     // a segment's last tick
-    End,
+    End = 6,
     // a level
-    Level,
+    Level = 7,
     // a tick at which a line's height is whole
-    Pivot,
+    Pivot = 8,
     // a line's height at its pivot
-    Height,
+    Height = 9,
     // how far a line rises over `Over` ticks
-    Rise,
+    Rise = 10,
     // the ticks over which a line rises by `Rise`
-    Over,
+    Over = 11,
     // one grade
-    Grade,
+    Grade = 12,
     // the first word of a tape: the width of its picks
-    Tape,
+    Tape = 14,
     // the second word of a tape: how many records it has
-    Count,
+    Count = 15,
 }
 
 // Why a number is no kind's, or 32 bits are no word.
@@ -62,22 +62,7 @@ impl From<Kind> for u32 {
     ghost from_gives = { λ kind number. number ≡ kind_number kind };
 
     fn from(kind: Kind) -> u32 {
-        match kind {
-            Kind::Low => 1,
-            Kind::High => 2,
-            Kind::Mask => 3,
-            Kind::Start => 4,
-            Kind::Batch => 5,
-            Kind::End => 6,
-            Kind::Level => 7,
-            Kind::Pivot => 8,
-            Kind::Height => 9,
-            Kind::Rise => 10,
-            Kind::Over => 11,
-            Kind::Grade => 12,
-            Kind::Tape => 14,
-            Kind::Count => 15,
-        }
+        kind as u32
     }
 }
 

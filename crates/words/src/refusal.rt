@@ -7,28 +7,28 @@ use std::fmt;
 // Why a call was refused.
 #[derive(Clone, Copy, PartialEq, Eq, Debug)]
 pub enum Reason {
-    // 1: the row has not as many words as the family's rows
-    RowLength,
-    // 2: a word of the row is of a wrong kind or out of range; the place is its index
-    BadWord,
-    // 3: no choice serves the reading alone
-    NoChoice,
-    // 4: the reading does not fit what was taken before
-    Unfitting,
-    // 5: the tick is out of range, or on recording not above the last accepted one
-    BadTick,
-    // 6: marking with nothing accepted since opening or the last mark
-    NothingToMark,
-    // 7: no segment spans the tick, or there is no such item
-    NoSegment,
-    // 8: the store's length or the pick's width is not as at opening
-    OtherStore,
-    // 9: the answer row, the slot or the pick words have a wrong length
-    WordsLength,
-    // 10: a new run is needed and no place is left
-    NoPlace,
-    // 11: a rule of the tape is broken, or the pick words are unlawful
-    Unlawful,
+    // the row has not as many words as the family's rows
+    RowLength = 1,
+    // a word of the row is of a wrong kind or out of range; the place is its index
+    BadWord = 2,
+    // no choice serves the reading alone
+    NoChoice = 3,
+    // the reading does not fit what was taken before
+    Unfitting = 4,
+    // the tick is out of range, or on recording not above the last accepted one
+    BadTick = 5,
+    // marking with nothing accepted since opening or the last mark
+    NothingToMark = 6,
+    // no segment spans the tick, or there is no such item
+    NoSegment = 7,
+    // the store's length or the pick's width is not as at opening
+    OtherStore = 8,
+    // the answer row, the slot or the pick words have a wrong length
+    WordsLength = 9,
+    // a new run is needed and no place is left
+    NoPlace = 10,
+    // a rule of the tape is broken, or the pick words are unlawful
+    Unlawful = 11,
 }
 
 // The number by which the reason is known, 1 to 11.
@@ -36,19 +36,7 @@ impl From<Reason> for u8 {
     ghost from_gives = { λ reason number. number ≡ reason_number reason };
 
     fn from(reason: Reason) -> u8 {
-        match reason {
-            Reason::RowLength => 1,
-            Reason::BadWord => 2,
-            Reason::NoChoice => 3,
-            Reason::Unfitting => 4,
-            Reason::BadTick => 5,
-            Reason::NothingToMark => 6,
-            Reason::NoSegment => 7,
-            Reason::OtherStore => 8,
-            Reason::WordsLength => 9,
-            Reason::NoPlace => 10,
-            Reason::Unlawful => 11,
-        }
+        reason as u8
     }
 }
 
