@@ -1,5 +1,5 @@
 -- On a lawful tape the search that checks no record again answers as the one that does.
-use Rattle.std.proofs.Common.{◌≡◌, ℕ, zero, suc, ◌+◌, ◌-◌, ◌<◌, Bool, true, false, cond, ◌&&◌, List, length, Some, None, Ok, Err, Option, Result, sym, refl, ap, ◌∙◌, arith}
+use Rattle.std.proofs.Common.{◌≡◌, ℕ, zero, suc, ◌+◌, Bool, true, false, cond, ◌&&◌, List, length, Some, None, Ok, Err, Option, Result, sym, refl, ap, ◌∙◌, arith}
 use Rattle.std.proofs.lemmas.Bool.{and_parts, false≢true}
 use Rattle.words.specs.declared.refusal.Reason.{Reason}
 use Rattle.words.specs.declared.refusal.Reason.TheVariants.{NoSegment, Unlawful, WordsLength, BadTick}
@@ -14,20 +14,6 @@ use Rattle.reader.specs.Tapes.{told_count, follows, records_fault, tape_fault, r
 use Rattle.reader.specs.Reads.{unless_refused, row_tick_refusal, value_of, value_read}
 use Rattle.reader.specs.Spans.{find_span, Opened, record_value, span_value, located, located_in}
 use Rattle.reader.proofs.Lawful.{cond_none, none_records}
-
--- the search by ticks alone, one record on, with the words as they were read
-span_step : (w : ℕ) (store : List ℕ) (t left i : ℕ) → 0 < left → find_span w store t left i ≡ cond (record_spans (record_at w store i) t) (Ok i) (find_span w store t (left - 1) (i + 1))
-span_step w store t zero i h = absurd (omega arith)
-span_step w store t (suc k) i h =
-    let e : k ≡ suc k - 1 = omega arith in
-    ap (λ (j : ℕ). cond (record_spans (record_at w store i) t) (Ok i) (find_span w store t j (i + 1))) e
-
-pub span_record : (w : ℕ) (store : List ℕ) (t left i : ℕ) (ws : List ℕ) (b : Bool) → 0 < left → ws ≡ record_at w store i → b ≡ record_spans ws t →
-    find_span w store t left i ≡ cond b (Ok i) (find_span w store t (left - 1) (i + 1))
-span_record w store t left i ws b h is eb =
-    span_step w store t left i h
-    ∙ ap (λ (x : List ℕ). cond (record_spans x t) (Ok i) (find_span w store t (left - 1) (i + 1))) (sym is)
-    ∙ ap (λ (x : Bool). cond x (Ok i) (find_span w store t (left - 1) (i + 1))) (sym eb)
 
 unless_none : (b : Bool) (why : Reason) → refuse_unless b why ≡ None → b ≡ true
 unless_none true why e = refl

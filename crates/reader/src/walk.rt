@@ -13,12 +13,9 @@ use words::{Reason, Refusal};
 pub(crate) fn find_span(records: &Records<'_>, tick: u32) -> Result<u32, Refusal>
     ensures { result ≡ find_span records.now.width records.now.store.now tick records.now.count 0 }
 {
-    for index in 0..records.count {
-        if records.at(index).spans(tick) {
-            return Ok(index);
-        }
-    }
-    Err(Refusal::new(Reason::NoSegment))
+    (0..records.count)
+        .find(|index| records.at(*index).spans(tick))
+        .ok_or(Refusal::new(Reason::NoSegment))
 }
 
 // Reads the value at the tick from a record's words; refuses by 9, 5, 11, 7. A refusal leaves every word of the row 0.
