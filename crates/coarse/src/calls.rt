@@ -1,7 +1,6 @@
-ghost use Rattle.std.specs.Prelude.{◌≡◌, pos, ◌≤ℤ◌, Some, Decides};
-ghost use Rattle.std.specs.Int.{int_max, int_min};
+ghost use Rattle.std.specs.Prelude.{◌≡◌, pos, ◌≤ℤ◌, Some};
 ghost use Rattle.family.specs.Bands.{low_of, high_of};
-ghost use Rattle.family.specs.Readings.{reading, Above};
+ghost use Rattle.family.specs.Readings.{reading};
 ghost use Rattle.family.specs.Refusing.{Answered};
 ghost use Rattle.family.specs.Meaning.{refusal, Next};
 ghost use Rattle.coarse.specs.Grid.{Joined, coarse_meaning, number_of, first_step, last_step, on_grid};

@@ -16,11 +16,14 @@ use words::Refusal;
 
 impl Recording {
     // Opens a tape over the store.
-    pub(crate) fn open<F: Family>(name: FamilyName, family: &mut F, store: Vec<u32>) -> Recording
+    pub(crate) fn open<F: Family>(
+        name: FamilyName,
+        family: &mut F,
+        mut store: Vec<u32>,
+    ) -> Recording
         requires { F.Family.meaning.pick_width ≡ pick_width_of name }
         ensures { Opened F.Family.meaning store.items (world result.tape family.new result.store.items) }
     {
-        let mut store = store;
         let length = store.len();
         let tape = OpenTape::open(family, store.as_mut_slice());
         Recording {
@@ -92,7 +95,7 @@ impl Recording {
 
     // Closes the tape with a state of the family that it was opened with, over a store of the length that it had then. That
     // is never refused.
-    fn end_with<F: Family + Drop>(self, family: F)
+    fn end_with<F: Family + Drop>(self, mut family: F)
         requires { F.Family.meaning.pick_width ≡ pick_width_of self.name }
     {
         let Recording {
@@ -101,7 +104,6 @@ impl Recording {
             length,
             mut store,
         } = self;
-        let mut family = family;
         store.resize(length, 0).unwrap();
         let _ = tape.close(&mut family, store.as_mut_slice()).unwrap();
     }

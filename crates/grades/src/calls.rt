@@ -1,6 +1,6 @@
-ghost use Rattle.std.specs.Prelude.{◌≡◌, ℕ, ◌<◌, ◌≤◌, length, Some, Decides, bit_and};
+ghost use Rattle.std.specs.Prelude.{◌≡◌, ℕ, ◌<◌, ◌≤◌, length, Some};
 ghost use Rattle.std.specs.Int.Count.{count_trailing_zeros};
-ghost use Rattle.family.specs.Readings.{reading, Above};
+ghost use Rattle.family.specs.Readings.{reading};
 ghost use Rattle.family.specs.Refusing.{Answered, row_refusal};
 ghost use Rattle.family.specs.Meaning.{refusal, Next};
 ghost use Rattle.grades.specs.Bit.{bit};

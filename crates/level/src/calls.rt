@@ -1,7 +1,6 @@
-ghost use Rattle.std.specs.Prelude.{◌≡◌, pos, ◌+ℤ◌, neg_ℤ, ◌≤ℤ◌, Some, Decides};
-ghost use Rattle.std.specs.Int.{int_max, int_min, int_div_euclid};
-ghost use Rattle.family.specs.Bands.{low_of, high_of};
-ghost use Rattle.family.specs.Readings.{reading, Above};
+ghost use Rattle.std.specs.Prelude.{◌≡◌, pos, ◌+ℤ◌, ◌≤ℤ◌, Some};
+ghost use Rattle.std.specs.Int.{int_div_euclid};
+ghost use Rattle.family.specs.Readings.{reading};
 ghost use Rattle.family.specs.Refusing.{Answered};
 ghost use Rattle.family.specs.Meaning.{refusal, Next};
 ghost use Rattle.level.specs.Levels.{Joined, level_meaning, middle};

@@ -1,7 +1,5 @@
 ghost use Rattle.std.specs.Prelude.{◌≡◌, length};
 ghost use Rattle.family.specs.Refusing.{Passed};
-ghost use Rattle.layout.specs.Layout.{pick_in};
-ghost use Rattle.layout.specs.Records.{record_spans};
 ghost use Rattle.reader.specs.Reads.{AnswersRow, row_tick_refusal};
 ghost use Rattle.reader.specs.Spans.{find_span, record_value, span_value, located};
 

@@ -1,4 +1,4 @@
-ghost use Rattle.std.specs.Prelude.{◌≡◌, ◌+◌, ◌-◌, ◌*◌, ◌<◌, ◌≤◌, true, length, pos, Ok, slice_set};
+ghost use Rattle.std.specs.Prelude.{◌≡◌, ◌+◌, ◌-◌, ◌<◌, ◌≤◌, true, length, pos, Ok, slice_set};
 ghost use Rattle.words.specs.Kinds.{in_range};
 ghost use Rattle.words.specs.Words.{word_of};
 ghost use Rattle.layout.specs.Layout.{first_word, count_word, with_record, opened_store};
