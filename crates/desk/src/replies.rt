@@ -19,7 +19,7 @@ impl Desk {
     }
 }
 
-// Adds an answer to each line to the text, on a line of its own, until a line can't be read.
+// Adds an answer to each line to the text, on a line of its own, until a line can't be read or the text finds no memory.
 fn add_answers(
     out: &mut String,
     heap: Global,
@@ -28,7 +28,7 @@ fn add_answers(
 ) -> io::Result<()> {
     for line in script.split(heap, b'\n') {
         if let Some(answer) = desk.reply(heap, line?.as_slice()) {
-            writeln!(out, "{answer}")?;
+            writeln!(out, "{answer}").map_err(|_| io::Error::from(io::ErrorKind::OutOfMemory))?;
         }
     }
     Ok(())

@@ -2,8 +2,8 @@
 //
 // A family has choices (curves), and a state of it is what it still allows after the readings it took. The trait's ghost
 // member `meaning` says all of that; its calls are equated with the meaning, refusals included; and its law `laws` is what
-// every family owes and generic code may use. `checks`, `span`, `band` and `pick` are the small tests that families share,
-// `run` is what holds of runs for all families together.
+// every family owes and generic code may use. `checks`, `span`, `band` and `pick` are the small tests and types that families
+// share, `run` is what holds of runs for all families together.
 #![tactic(auto)]
 
 mod band;

@@ -1,5 +1,14 @@
 ghost use Rattle.std.specs.Prelude.{◌≡◌, ◌+◌, ◌-◌, ◌*◌, ◌<◌, ◌≤◌};
-ghost use Rattle.layout.specs.Layout.{places_of, place_at};
+ghost use Rattle.layout.specs.Layout.{places_of, place_at, tape_word};
+
+use words::Kind;
+
+// The first word of a tape with picks of the width.
+pub fn tape_word(width: u16) -> u32
+    ensures { result ≡ tape_word width }
+{
+    Kind::Tape.with_payload(width.min(13) as u32)
+}
 
 // How many records a store of `length` words has room for.
 pub fn places(width: u16, length: usize) -> u32

@@ -1,7 +1,6 @@
 pub mod Sound
 pub mod Spans
 pub mod Choices
-pub mod Numbers
 pub mod Picks
 pub mod Words
 pub mod LineMeaning

@@ -78,9 +78,9 @@ module _ (lows highs : Hull) (least fall : Slope) (a b : Point) (bounds : Bounds
 pub no_ends : (h : Hull) → h.len ≡ 0 → ends h ≡ []
 no_ends h e = ap (λ (n : ℕ). take n h.points) e
 
-sound_open : (lows highs : Hull) → lows.len ≡ 0 → highs.len ≡ 0 → Sound lows highs unbounded unbounded 0 0
+sound_none : (lows highs : Hull) → lows.len ≡ 0 → highs.len ≡ 0 → Sound lows highs unbounded unbounded 0 0
 unfolding Bound
-sound_open lows highs zl zh =
+sound_none lows highs zl zh =
     let el = no_ends lows zl in
     let eh = no_ends highs zh in
     record {
@@ -97,5 +97,5 @@ sound_open lows highs zl zh =
     }
 
 -- nothing taken: every line
-pub sound_none : (lows highs : Hull) (least fall : Slope) → lows.len ≡ 0 → highs.len ≡ 0 → least ≡ unbounded → fall ≡ unbounded → ∥ Sound lows highs least fall 0 0 ∥₁
-sound_none lows highs least fall zl zh el ef = ∣ subst (λ (p : Slope). Sound lows highs p fall 0 0) (sym el) (subst (λ (q : Slope). Sound lows highs unbounded q 0 0) (sym ef) (sound_open lows highs zl zh)) ∣₁
+pub sound_bare : (lows highs : Hull) (least fall : Slope) → lows.len ≡ 0 → highs.len ≡ 0 → least ≡ unbounded → fall ≡ unbounded → ∥ Sound lows highs least fall 0 0 ∥₁
+sound_bare lows highs least fall zl zh el ef = ∣ subst (λ (p : Slope). Sound lows highs p fall 0 0) (sym el) (subst (λ (q : Slope). Sound lows highs unbounded q 0 0) (sym ef) (sound_none lows highs zl zh)) ∣₁

@@ -1,4 +1,4 @@
-ghost use Rattle.std.specs.Prelude.{◌≡◌, true, length};
+ghost use Rattle.std.specs.Prelude.{◌≡◌, ◌<◌, true, length, IfSome};
 ghost use Rattle.words.specs.declared.kind.Kind.TheVariants.{Level as LevelKind};
 ghost use Rattle.words.specs.Kinds.{in_range};
 ghost use Rattle.words.specs.Words.{word_of};
@@ -7,7 +7,6 @@ ghost use Rattle.line.specs.Words.{Read};
 
 use family::Span;
 use slope::{gcd, value_at};
-use std::marker::Model;
 use words::{Kind, Word, payload};
 
 // A line by its pivot, a tick at which its height is whole, by that height, and by its slope, rise and over.
@@ -17,20 +16,6 @@ pub struct Pick {
     pub height: i32,
     pub rise: i32,
     pub over: u32,
-}
-
-// In a clause a pick is its numbers; of every pick the over is above 0.
-impl Model for Pick {
-    ghost use Rattle.std.specs.Prelude.{◌<◌};
-    ghost use Rattle.line.specs.Numbers.{Numbers};
-
-    ghost Value = { Numbers };
-
-    ghost view = { λ p. record { pivot = p.pivot; height = p.height; rise = p.rise; over = p.over } };
-
-    ghost invariant = { λ p. 0 < p.over };
-
-    ghost inverse = { λ n. record { pivot = n.pivot; height = n.height; rise = n.rise; over = n.over } };
 }
 
 // The word of a kind that holds a number. It asks for a number in range, so it is no call for buyers.
@@ -71,7 +56,8 @@ impl Pick {
     // The pick that four words say: none, where a word is of another kind or out of range.
     pub(crate) fn read(words: &[u32]) -> Option<Pick>
         requires { length words.now ≡ 4 }
-        ensures { Read words.now result }
+        ensures is { Read words.now result }
+        ensures over { IfSome result (λ p. 0 < p.over) }
     {
         let _ = Kind::Pivot.read(words[0])?;
         let height = Kind::Height.read(words[1])?;
@@ -101,6 +87,7 @@ impl Pick {
 
     // The height at a tick, rounded down.
     fn height_at(&self, tick: u32) -> i128
+        requires { 0 < self.now.over }
         ensures { result ≡ height_at self.now tick }
     {
         value_at(self.height, self.rise, self.over, self.pivot, tick)
@@ -108,6 +95,7 @@ impl Pick {
 
     // Whether the height at a tick, rounded down, is within ±1,000,000.
     fn is_in_reach(&self, tick: u32) -> bool
+        requires { 0 < self.now.over }
         ensures { result ≡ in_reach self.now tick }
     {
         (-1_000_000..=1_000_000).contains(&self.height_at(tick))
@@ -115,6 +103,7 @@ impl Pick {
 
     // Whether the pick is lawful for a first and a last tick.
     pub(crate) fn is_lawful(&self, span: Span) -> bool
+        requires { 0 < self.now.over }
         ensures { result ≡ pick_lawful self.now span.first span.last }
     {
         self.is_lowest_terms()
@@ -125,7 +114,8 @@ impl Pick {
 
     // The LEVEL word of the height at a tick.
     pub(crate) fn level_at(&self, tick: u32) -> u32
-        requires { in_reach self.now tick ≡ true }
+        requires over { 0 < self.now.over }
+        requires reach { in_reach self.now tick ≡ true }
         ensures { result ≡ word_of LevelKind (height_at self.now tick) }
     {
         word(Kind::Level, self.height_at(tick) as i32)

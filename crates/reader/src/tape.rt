@@ -7,7 +7,7 @@ ghost use Rattle.layout.specs.Records.{record_lawful};
 ghost use Rattle.reader.specs.Tapes.{told_count, follows, records_fault, tape_fault, refuse_tape, LawfulTape};
 
 use family::Family;
-use layout::{Record, Records, places, word_at};
+use layout::{Record, Records, places, tape_word, word_at};
 use words::{Kind, Reason, Refusal, payload};
 
 // The number of records that a tape's second word tells.
@@ -15,13 +15,6 @@ fn told_count(store: &[u32]) -> u32
     ensures { result ≡ told_count store.now }
 {
     payload(word_at(store, 1))
-}
-
-// The first word of a tape with picks of the width.
-fn tape_word(width: u16) -> u32
-    ensures { result ≡ tape_word width }
-{
-    Kind::Tape.with_payload(width.min(13) as u32)
 }
 
 // Whether the first word is TAPE with the width.

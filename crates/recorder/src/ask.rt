@@ -5,6 +5,7 @@ ghost use Rattle.reader.specs.Reads.{AnswersRow, row_tick_refusal};
 ghost use Rattle.recorder.specs.Steps.{opened_refusal};
 ghost use Rattle.recorder.specs.Asking.{run_value, by_phase, records_value};
 ghost use Rattle.recorder.specs.Histories.{world, Asked, Dealt};
+ghost use Rattle.recorder.specs.Views.{Sound};
 ghost use Rattle.recorder.specs.Law.{LawAt};
 
 use super::tape::{OpenTape, Phase};
@@ -43,7 +44,8 @@ fn refuse(row: &mut [u32], refusal: Refusal) -> Result<(), Refusal>
 impl OpenTape {
     // The checks of asking: 8, 9, 5.
     fn may_ask<F: Family>(&self, store: &[u32], len: usize, tick: u32) -> Result<(), Refusal>
-        ensures { Passed (first_refusal (opened_refusal self.now F.Family.meaning.pick_width (length store.now)) (row_tick_refusal F.Family.meaning len tick)) result }
+        ensures is { Passed (first_refusal (opened_refusal self.now F.Family.meaning.pick_width (length store.now)) (row_tick_refusal F.Family.meaning len tick)) result }
+        ensures sound { Sound self.now }
     {
         self.as_opened::<F>(store)?;
         check_request::<F>(len, tick)
@@ -88,6 +90,7 @@ impl OpenTape {
     ) -> Result<(), Refusal>
         ensures is { Asked F.Family.meaning (world self.now family.now store.now) tick row.old result row.new }
         ensures law { (log : List Logged) → Dealt F.Family.meaning log (world self.now family.now store.now) → LawAt F.Family.meaning log (world self.now family.now store.now) }
+        ensures sound { Sound self.now }
     {
         if let Err(refusal) = self.may_ask::<F>(store, row.len(), tick) {
             return refuse(row, refusal);

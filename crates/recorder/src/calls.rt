@@ -1,4 +1,4 @@
-ghost use Rattle.std.specs.Prelude.{◌≡◌, List, [], length};
+ghost use Rattle.std.specs.Prelude.{◌≡◌, List, [], length, IfErr};
 ghost use Rattle.cuttings.specs.Cutting.{Event as Logged};
 ghost use Rattle.family.specs.Readings.{reading};
 ghost use Rattle.recorder.specs.Views.{Sound};
@@ -14,7 +14,7 @@ use layout::places;
 use words::Refusal;
 
 impl OpenTape {
-    // How many segments the store has room for. What holds of every open tape is told here to whoever holds one.
+    // How many segments the store has room for. `Sound` is what holds of every open tape.
     pub fn places(&self) -> u32
         ensures is { result ≡ self.now.places }
         ensures sound { Sound self.now }
@@ -26,6 +26,7 @@ impl OpenTape {
     pub fn open<F: Family>(family: &mut F, store: &mut [u32]) -> OpenTape
         ensures is { Opened F.Family.meaning store.old (world result family.new store.new) }
         ensures law { LawAt F.Family.meaning [] (world result family.new store.new) }
+        ensures sound { Sound result }
     {
         family.restart();
         let width = F::pick_width();
@@ -48,7 +49,8 @@ impl OpenTape {
         tick: u32,
         row: &[u32],
     ) -> Result<u32, Refusal>
-        ensures { RecordedBy F.Family.meaning (early_refusal F.Family.meaning self.old (length store.old) (reading tick row.now)) self.old family.old store.old (reading tick row.now) self.new family.new store.new result }
+        ensures is { RecordedBy F.Family.meaning (early_refusal F.Family.meaning self.old (length store.old) (reading tick row.now)) self.old family.old store.old (reading tick row.now) self.new family.new store.new result }
+        ensures sound { Sound self.new }
     {
         self.as_opened::<F>(store)?;
         self.after(tick)?;
@@ -70,6 +72,7 @@ impl OpenTape {
     ) -> Result<u32, Refusal>
         ensures is { Recorded F.Family.meaning (world self.old family.old store.old) (reading tick row.now) result (world self.new family.new store.new) }
         ensures law { (log : List Logged) → Dealt F.Family.meaning log (world self.old family.old store.old) → LawAt F.Family.meaning (noted log (reading tick row.now) result) (world self.new family.new store.new) }
+        ensures sound { Sound self.new }
     {
         self.enter(family, store, tick, row)
     }
@@ -78,6 +81,7 @@ impl OpenTape {
     pub fn mark<F: Family>(&mut self, family: &mut F, store: &mut [u32]) -> Result<(), Refusal>
         ensures is { Marked F.Family.meaning (world self.old family.old store.old) result (world self.new family.new store.new) }
         ensures law { (log : List Logged) → Dealt F.Family.meaning log (world self.old family.old store.old) → LawAt F.Family.meaning (parted log result) (world self.new family.new store.new) }
+        ensures sound { Sound self.new }
     {
         self.as_opened::<F>(store)?;
         self.step(family, store, Event::Mark)
@@ -106,6 +110,7 @@ impl OpenTape {
     ) -> Result<ClosedTape, (OpenTape, Refusal)>
         ensures is { Closed F.Family.meaning (world self family.old store.old) result family.new store.new }
         ensures law { (log : List Logged) → Dealt F.Family.meaning log (world self family.old store.old) → LawAt F.Family.meaning log (world self family.old store.old) }
+        ensures sound { IfErr result (λ back. Sound back.0) }
     {
         if let Err(refusal) = self.as_opened::<F>(store) {
             return Err((self, refusal));

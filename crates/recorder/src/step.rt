@@ -1,6 +1,7 @@
 ghost use Rattle.std.specs.Prelude.{◌≡◌, length};
 ghost use Rattle.family.specs.Refusing.{Passed};
 ghost use Rattle.recorder.specs.declared.tape.Phase.TheVariants.{Running};
+ghost use Rattle.recorder.specs.Views.{Sound};
 ghost use Rattle.recorder.specs.Steps.{opened_refusal, late_refusal, outcome_of, answer_by, view_by, store_by, StateBy, Timely};
 ghost use Rattle.recorder.specs.Recording.{event_of};
 
@@ -41,7 +42,8 @@ pub(crate) fn event_of(fits: bool, tick: u32) -> Event
 impl OpenTape {
     // Refuses by 8 another pick's width or another store length than at opening.
     pub(crate) fn as_opened<F: Family>(&self, store: &[u32]) -> Result<(), Refusal>
-        ensures { Passed (opened_refusal self.now F.Family.meaning.pick_width (length store.now)) result }
+        ensures is { Passed (opened_refusal self.now F.Family.meaning.pick_width (length store.now)) result }
+        ensures sound { Sound self.now }
     {
         if F::pick_width() == self.width && store.len() == self.length {
             Ok(())
@@ -76,6 +78,7 @@ impl OpenTape {
         ensures tape { self.new ≡ view_by self.old (outcome_of self.old event) }
         ensures words { store.new ≡ store_by self.old (F.Family.meaning.words family.old) store.old (outcome_of self.old event) }
         ensures state { StateBy F.Family.meaning family.old family.new (outcome_of self.old event) }
+        ensures sound { Sound self.new }
     {
         match (self.phase, event) {
             (

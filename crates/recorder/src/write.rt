@@ -5,7 +5,7 @@ ghost use Rattle.layout.specs.Layout.{first_word, count_word, with_record, opene
 
 use super::tape::OpenTape;
 use family::{Family, Span};
-use layout::place_at;
+use layout::{place_at, tape_word};
 use words::{Kind, Refusal, Word};
 
 // The word of a kind that holds a number from 0 on. It asks for a number in range, so it is no call for buyers.
@@ -34,7 +34,7 @@ pub(crate) fn write_header(store: &mut [u32], width: u16)
     ensures { store.new ≡ opened_store width store.old }
 {
     if store.len() >= 2 {
-        store[0] = word(Kind::Tape, width.min(13) as u32);
+        store[0] = tape_word(width);
         store[1] = word(Kind::Count, 0);
     }
 }

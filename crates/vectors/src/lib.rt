@@ -44,9 +44,7 @@ mod tests {
     #[test]
     fn boundary_words(rt: HostRuntime) -> Result<(), Fail> {
         for (kind, number, beyond, bits) in ENDS {
-            let Ok(word) = Word::try_from(bits) else {
-                return Err(Fail::new("no word"));
-            };
+            let word = Word::try_from(bits).map_err(|_| "no word")?;
             assert_eq!(rt; word.kind, kind);
             assert_eq!(rt; word.number, number);
             assert_eq!(rt; u32::from(word), bits);
@@ -74,12 +72,8 @@ mod tests {
 
     // The row of a band.
     fn band(low: i32, high: i32) -> Result<[u32; 2], Fail> {
-        let Some(low) = Word::new(Kind::Low, low) else {
-            return Err(Fail::new("low is out of range"));
-        };
-        let Some(high) = Word::new(Kind::High, high) else {
-            return Err(Fail::new("high is out of range"));
-        };
+        let low = Word::new(Kind::Low, low).ok_or("low is out of range")?;
+        let high = Word::new(Kind::High, high).ok_or("high is out of range")?;
         Ok([u32::from(low), u32::from(high)])
     }
 

@@ -2,7 +2,7 @@ use Rattle.std.proofs.Common.{ℕ, ◌≤◌, sym, subst, ◌∙◌}
 use Rattle.family.specs.Readings.{reading}
 use Rattle.recorder.specs.Histories.{world}
 use Rattle.recorder.proofs.Kept.{recorded_keeps}
-use Rattle.bench.proofs.Places.{recorded_places, recorded_room, closed_within}
+use Rattle.bench.proofs.Places.{recorded_places, closed_within}
 use Rattle.bench.proofs.measure.measure.Goals as goal
 
 pub loop-row-preserved : goal.loop-row-preserved
@@ -16,11 +16,11 @@ loop-row-preserved g c =
       wide = k.wide ∙ i.wide;
       long = c.record.auto.store ∙ i.long ∙ sym k.long;
       places = recorded_places g.F.Family.meaning before after read c.record.result c.record.ensures.is ∙ i.places;
-      room = recorded_room g.F.Family.meaning before after read c.record.result c.record.ensures.is i.room;
+      sound = c.record.ensures.sound;
     }
 
 pub returns : goal.returns
 returns g c =
     subst (λ (n : ℕ). c.unwrap.result.segments ≤ n) c.loop-row.invariant.places
     (closed_within g.F.Family.meaning (world c.loop-row.tape c.loop-row.family c.loop-row.store) c.close.result
-    c.unwrap.result c.loop-row.invariant.room c.unwrap.ensures c.close.ensures.is.answer)
+    c.unwrap.result c.loop-row.invariant.sound c.unwrap.ensures c.close.ensures.is.answer)

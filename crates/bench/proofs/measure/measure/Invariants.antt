@@ -1,6 +1,6 @@
 use Rattle.std.proofs.Common.{◌≡◌, length}
 use Rattle.recorder.specs.Steps.{opened_view}
-use Rattle.bench.proofs.Places.{HasRoom}
+use Rattle.recorder.specs.Views.{Sound}
 use Rattle.bench.proofs.measure.measure.Given as goal
 
 abbrev pub invariant-loop-row : goal.invariant-loop-row
@@ -9,5 +9,5 @@ invariant-loop-row g l =
       wide : l.tape.width ≡ g.F.Family.meaning.pick_width;
       long : length l.store ≡ l.tape.length;
       places : l.tape.places ≡ (opened_view g.F.Family.meaning.pick_width (length l.fn.store)).places;
-      room : HasRoom l.tape;
+      sound : Sound l.tape;
     }
