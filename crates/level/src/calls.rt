@@ -31,7 +31,8 @@ impl Level {
         }
     }
 
-    // The state with the levels of a band taken at a tick: none where the tick is not above the last one taken or no allowed level is among them.
+    // The state with the levels of a band taken at a tick: none where the tick is not above the last one taken or no allowed
+    // level is among them.
     fn joined(&self, tick: u32, band: Band) -> Option<Level>
         ensures { Joined self.now tick band result }
     {

@@ -78,7 +78,7 @@ module _ (lows highs : Hull) (least fall : Slope) (a b : Point) (bounds : Bounds
 pub no_ends : (h : Hull) → h.len ≡ 0 → ends h ≡ []
 no_ends h e = ap (λ (n : ℕ). take n h.points) e
 
-sound_none : (lows highs : Hull) → lows.len ≡ 0 → highs.len ≡ 0 → Sound lows highs unbounded unbounded 0 0
+pub sound_none : (lows highs : Hull) → lows.len ≡ 0 → highs.len ≡ 0 → Sound lows highs unbounded unbounded 0 0
 unfolding Bound
 sound_none lows highs zl zh =
     let el = no_ends lows zl in
