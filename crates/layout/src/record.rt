@@ -50,6 +50,10 @@ impl<'a> Record<'a> {
     fn is_framed(&self) -> bool
         ensures { result ≡ framed self.now.words.now }
     {
+        // Without this test the length is looked at again for each word, and a walk over records takes longer.
+        if self.words.len() < 2 {
+            return false;
+        }
         let begins = self.begins_batch() || Kind::Start.names(word_at(self.words, 0));
         let span = self.span();
         begins && Kind::End.names(word_at(self.words, 1)) && span.first <= span.last
