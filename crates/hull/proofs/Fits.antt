@@ -6,7 +6,7 @@ use Rattle.std.proofs.lemmas.Int.{ints}
 use Rattle.slope.specs.Slopes.{Slope, AtMost}
 use Rattle.slope.proofs.Ring.{ring, lins, mul_le, le_of_mul}
 use Rattle.slope.proofs.Fractions.{bound_over}
-use Rattle.slope.proofs.NearZero.{Open}
+use Rattle.slope.proofs.NearZero.{Open, open_pick}
 use Rattle.hull.specs.declared.point.Point.{Point}
 use Rattle.hull.specs.Points.{reaching, Apart}
 use Rattle.hull.specs.Lines.{Serves, Slopes, Bounds}
@@ -69,7 +69,13 @@ slopes_line a ls ms r u hu s =
     let m = lowest r u a ls in
     (m.0, record { over = hu; lows = m.1; highs = All-weaker _ _ (λ b g. m.2 b g) ms (across (Apart r u) (a ∷ ls) ms s) })
 
--- where a line serves, the bounds leave a slope
+-- a line serves exactly where the bounds leave a slope
+pub fits_yes : (a : Point) (ls ms : List Point) (p q : Slope) → Bounds (a ∷ ls) ms p q → Open p q → (r : ℤ) × (u : ℤ) × (k : ℤ) × Serves (a ∷ ls) ms r u k
+fits_yes a ls ms p q k o =
+    let c = open_pick p q k.low k.high o in
+    let l = slopes_line a ls ms c.0 c.1 c.2 (k.enough c.0 c.1 c.2 c.3 c.4) in
+    (c.0, c.1, l.0, l.1)
+
 pub fits_no : (ls ms : List Point) (p q : Slope) (r u k : ℤ) → Bounds ls ms p q → Serves ls ms r u k → Open p q
 fits_no ls ms p q r u k b l = let n = b.needed r u l.over (line_slopes ls ms r u k l) in
     let m1 = simp ring at (mul_le q.1 (p.0 *ℤ u) (r *ℤ p.1) (bound_over q b.high) n.0) in

@@ -1,15 +1,16 @@
 -- A push: it allows the lines that the hull and the point do, so the bounds of the slope stay what they were.
-use Rattle.std.proofs.Common.{◌≡◌, ◌<◌, true, false, cond, List, [], ◌∷◌, ◌++◌, reverse, ℤ, pos, neg_ℤ, ◌<ℤ◌, sym, ap, ◌∙◌, subst, arith}
+use Rattle.std.proofs.Common.{◌≡◌, ◌<◌, true, false, cond, List, [], ◌∷◌, ◌++◌, reverse, ℤ, pos, negsuc, ◌+ℤ◌, neg_ℤ, ◌≤ℤ◌, ◌<ℤ◌, sym, refl, ap, ◌∙◌, subst, inr, arith}
 use Rattle.std.specs.List.{AllByRecursion}
 use Rattle.std.proofs.ByRecursion.{All-weaker, All-push}
 use Rattle.std.proofs.lemmas.List.{reverse-append, reverse-reverse}
-use Rattle.slope.specs.Slopes.{Slope}
+use Rattle.std.proofs.lemmas.Int.{ints}
+use Rattle.slope.specs.Slopes.{Slope, Bound}
 use Rattle.hull.specs.declared.point.Point.{Point}
 use Rattle.hull.specs.Points.{NotBelow, Apart}
 use Rattle.hull.specs.Hulls.{covered, popped, pushed, Falling}
 use Rattle.hull.specs.Lines.{Serves, Slopes, Bounds}
 use Rattle.hull.proofs.Lines.{unpopped, all_popped}
-use Rattle.hull.proofs.Fits.{line_slopes, slopes_line}
+use Rattle.hull.proofs.Fits.{own, line_slopes, slopes_line}
 
 all_reverse : (P : Point → Type 0) (l : List Point) → AllByRecursion P l → AllByRecursion P (reverse l)
 all_reverse P [] h = tt
@@ -67,3 +68,13 @@ pub falling_next : (ps : List Point) (p q : Point) → p.tick < q.tick → Falli
 falling_next ps p q h f =
     let e : reverse (pushed ps p) ≡ p ∷ popped (reverse ps) p = reverse-append (reverse (popped (reverse ps) p)) (p ∷ []) ∙ ap (λ (l : List Point). p ∷ l) (reverse-reverse (popped (reverse ps) p)) in
     subst (Falling q) (sym e) (h, falling_popped p (reverse ps) p f)
+
+-- one reading alone: every slope
+pub bounds_one : (a b : Point) → a.tick ≡ b.tick → (a.height +ℤ b.height) ≤ℤ pos 0 → Bounds (a ∷ []) (b ∷ []) (negsuc 0, pos 0) (negsuc 0, pos 0)
+unfolding Bound
+bounds_one a b e h = record {
+  enough = λ r u hu p q. ((own r u a b hu e h, tt), tt);
+  needed = λ r u hu s. (omega (arith, ints), omega (arith, ints));
+  low = inr (refl, omega (arith, ints));
+  high = inr (refl, omega (arith, ints));
+}

@@ -115,3 +115,11 @@ module _ (s : Line) (r : Reading) (h : Reaches s r.tick) (w : low_of r.row ≤�
 
     pub taken_sound : ∥ Sound lows' highs' p q (where_none s.lows.len r.tick (first_of s.span)) r.tick ∥₁
     taken_sound = ∥∥₁_map s.sound (λ x. by_count s.lows.len refl x)
+
+-- a reading that fits reaches
+pub fits_reaches : (s : Line) (r : Reading) → Fits line_meaning s r → Reaches s r.tick
+fits_reaches s r f n =
+    let a = subst (λ (o : Option ℕ). Above o r.tick) (some_points s.lows.len None (Some (last_of s.span)) n) f.above in
+    let w = f.some.allowed.0 n in
+    let v = f.some.serving.1 in
+    (a, omega (arith, w, v))

@@ -42,10 +42,10 @@ module _ (s : Line) (r : Reading) (a b : Point) (p q : Slope) (d : Taken) (ea : 
   abbrev step : Step
   step = record { low = a; high = b; bounds = record { least = p; fall = q }; span = d }
 
-  met : meeting p q ≡ true → Fits line_meaning s r × Reaches s r.tick × Stepped s r step
+  pub met : meeting p q ≡ true → Fits line_meaning s r × Reaches s r.tick × Stepped s r step
   met m = (fits_from s r h ordered (sym (ap₂ meeting least_is fall_is) ∙ m), h, record { low = ea; high = eb; least = least_is; fall = fall_is; first = ed; last = et })
 
-  unmet : meeting p q ≡ false → Fits line_meaning s r → ⊥
+  pub unmet : meeting p q ≡ false → Fits line_meaning s r → ⊥
   unmet m f = false≢true (sym m ∙ ap₂ meeting least_is fall_is ∙ fits_meets s r h ordered f)
 
   -- a reading that the state reaches is a step where the bounds with it taken meet

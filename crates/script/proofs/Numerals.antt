@@ -23,7 +23,7 @@ pub none_digits : (bs : List ℕ) (most : ℕ) → all_ascii_digits bs ≡ false
 unfolding number_of
 none_digits bs most e = sym (cond-false _ _ _ (and_left (all_ascii_digits bs) _ e))
 
-some_number
+pub some_number
     : (bs : List ℕ) (most n : ℕ) → all_ascii_digits bs ≡ true
     → ParsesUnsigned {E = Unit {0}} 32 10 bs (Ok n) → n ≤ most → Some n ≡ number_of bs most
 unfolding number_of
@@ -32,7 +32,7 @@ some_number bs most n d h le =
     ap Some q.1
     ∙ sym (cond-true _ _ _ (and_from _ _ d (and_from _ _ (lt-ltb 0 _ q.0.0) (le-leb _ most (omega arith)))))
 
-none_large
+pub none_large
     : (bs : List ℕ) (most n : ℕ) → all_ascii_digits bs ≡ true
     → ParsesUnsigned {E = Unit {0}} 32 10 bs (Ok n) → most < n → None ≡ number_of bs most
 unfolding number_of
@@ -43,7 +43,7 @@ none_large bs most n d h gt =
     let le : digits_value 10 bs ≤ most = leb-true _ most (and_parts (ltb 0 (length bs)) _ p).1 in
     omega arith)
 
-none_error
+pub none_error
     : (bs : List ℕ) (most : ℕ) → all_ascii_digits bs ≡ true
     → ParsesUnsigned {E = Unit {0}} 32 10 bs (Err (tt {0})) → most < 2 ^ 32 → None ≡ number_of bs most
 unfolding number_of
@@ -95,7 +95,7 @@ pub none_hex : (bs : List ℕ) → all_hex bs ≡ false → None ≡ word_of bs
 unfolding word_of
 none_hex bs e = sym (cond-false _ _ _ (and_right (eqb (length bs) 8) _ e))
 
-some_word
+pub some_word
     : (bs : List ℕ) (w : ℕ) → length bs ≡ 8 → all_hex bs ≡ true
     → ParsesUnsigned {E = Unit {0}} 32 16 bs (Ok w) → Some w ≡ word_of bs
 unfolding word_of
@@ -104,7 +104,7 @@ some_word bs w len e h =
     ∙ sym (cond-true _ _ _ (and_from _ _ (eq-eqb _ 8 len) e))
 
 -- eight hexadecimal digits always write a word
-no_error
+pub no_error
     : (bs : List ℕ) → length bs ≡ 8 → all_hex bs ≡ true
     → ParsesUnsigned {E = Unit {0}} 32 16 bs (Err (tt {0})) → ⊥
 no_error bs len e h =
